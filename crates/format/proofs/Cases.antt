@@ -1,0 +1,314 @@
+-- The bench cases marked P, and each refusal's example, as one table proved by one statement, by computation ("Bench cases", "Refusal slips"). Assumes nothing.
+use Prim.Native.Nat.{ℕ, suc}
+use mathlib.Core.Path.{_≡_, refl, ap₂}
+use mathlib.Core.Bool.{Bool, true, false, _&&_, false≢true, and-eq-true-iff}
+use mathlib.Core.List.{List, [], _∷_, _++_, map}
+use lib.Dec.{eqb, lit≤}
+use borrow.Author.Tests.{eqb-true}
+use lib.ListN.{length, replicate, take}
+use Rattle.format.specs.declared.Route.{Route}
+use Rattle.format.specs.declared.Route.the-variants.{None, All, Slices, Indices}
+use Rattle.format.specs.declared.Pack.{Pack}
+use Rattle.format.specs.declared.Pack.the-variants.{Mask, Journal}
+use Rattle.format.specs.declared.Answer.{Answer}
+use Rattle.format.specs.declared.Answer.the-variants.{Done, Refused}
+use Rattle.format.specs.Bytes as Bytes
+use Rattle.format.specs.Bytes.{join, padded, one}
+use Rattle.format.specs.Words as Words
+use Rattle.format.specs.Words.{compress}
+use Rattle.format.specs.Node as Node
+use Rattle.format.specs.Node.{mark, noBitmap}
+use Rattle.format.specs.Verdict as Verdict
+use Rattle.format.specs.Mask as Masks
+use Rattle.format.specs.Mask.{byRoute}
+use Rattle.format.specs.Kept as Kept
+use Rattle.format.specs.Write as Write
+use Rattle.format.specs.Write.{numbers}
+use Rattle.format.specs.Answer as Answers
+use Rattle.format.specs.Answer.{Call, Stated, unstated, stated, answer, outputAfter, listAfter, scratchAfter}
+use Rattle.format.proofs.Demand3.{Alike}
+
+-- a pack from its body, its nodes' fields, and the trailer's rows
+pack : List ℕ → List (List ℕ) → ℕ → List ℕ
+pack body nodes rows = padded body ++ join (map (numbers 4) nodes) ++ numbers 4 (length (padded body) ∷ length nodes ∷ rows ∷ mark ∷ [])
+
+-- a node by kind, param, rows, skip, kids, and the places of its bitmap and its first buffer; it has no second buffer
+node : ℕ → ℕ → ℕ → ℕ → ℕ → ℕ → ℕ → List ℕ
+node kind param rows skip kids validity first = kind ∷ param ∷ rows ∷ skip ∷ kids ∷ validity ∷ first ∷ 0 ∷ 0 ∷ 0 ∷ []
+
+-- a mask of n slots and no null; a column of numbers of 4 bytes; of texts, by their offsets; runs of such numbers
+maskOf : ℕ → ℕ → List ℕ
+maskOf n bits = pack (bits ∷ []) (node 1 0 n 0 0 noBitmap 0 ∷ []) n
+
+natives : List ℕ → List ℕ
+natives ns = pack (numbers 4 ns) (node 2 4 (length ns) 0 0 noBitmap 0 ∷ []) (length ns)
+
+texts : ℕ → List ℕ → List ℕ → List ℕ
+texts rows offsets bytes =
+    pack (padded (numbers 4 offsets) ++ bytes)
+    ((4 ∷ 0 ∷ rows ∷ 0 ∷ 0 ∷ noBitmap ∷ 0 ∷ length (padded (numbers 4 offsets)) ∷ length bytes ∷ 0 ∷ []) ∷ []) rows
+
+runsOf : ℕ → ℕ → List ℕ → List ℕ → List ℕ
+runsOf rows skip ends values =
+    pack (padded (numbers 4 ends) ++ numbers 4 values)
+    (node 9 4 rows skip 1 noBitmap 0 ∷ node 2 4 (length values) 0 0 noBitmap (length (padded (numbers 4 ends))) ∷ []) rows
+
+-- a call; and one with no stated count and no list, two bytes of scratch and so many of output
+call : List ℕ → List ℕ → Stated → Bool → List ℕ → List ℕ → List ℕ → Call
+call m j count asked list scratch output =
+    let mask′ : List ℕ = m in
+    let journal′ : List ℕ = j in
+    record { mask = mask′; journal = journal′; states = count; asked = asked; list = list; scratch = scratch; output = output }
+
+plain : ℕ → List ℕ → List ℕ → Call
+plain room m j = call m j unstated false [] (9 ∷ 9 ∷ []) (replicate room 7)
+
+-- an answer in numbers: kept, mask length, route, extract length; or a refusal's number, and its pack
+routeNumber : Route → ℕ
+routeNumber None = 0
+routeNumber All = 1
+routeNumber Slices = 2
+routeNumber Indices = 3
+
+packNumber : Pack → ℕ
+packNumber Mask = 0
+packNumber Journal = 1
+
+inNumbers : Answer → List ℕ
+inNumbers (Done kept slots route bytes) = kept ∷ slots ∷ routeNumber route ∷ bytes ∷ []
+inNumbers (Refused n p) = n ∷ packNumber p ∷ []
+
+-- what is found and what is expected: an answer, and output, list and scratch as the call returns; or a number
+record Case : Type 0 where
+  found : List (List ℕ)
+  expected : List (List ℕ)
+
+abbrev ends : Answer → List ℕ → List ℕ → List ℕ → List (List ℕ)
+ends a output list scratch = inNumbers a ∷ output ∷ list ∷ scratch ∷ []
+
+abbrev number : ℕ → List (List ℕ)
+number n = (n ∷ []) ∷ []
+
+outcome : Call → List (List ℕ)
+outcome c = ends (answer c) (outputAfter c) (listAfter c) (scratchAfter c)
+
+case : List (List ℕ) → List (List ℕ) → Case
+case f e = record { found = f; expected = e }
+
+-- a call that is refused changes nothing
+refusal : ℕ → Pack → Call → Case
+refusal n p c = case (outcome c) (ends (Refused n p) (c .output) (c .list) (c .scratch))
+
+-- a call that keeps so many rows of so many by a route: the extract, one byte of output beyond it, and the scratch
+keeps : ℕ → ℕ → Route → List ℕ → List ℕ → List ℕ → List ℕ → Case
+keeps kept slots route m j new scratch =
+    case (outcome (plain (suc (length new)) m j)) (ends (Done kept slots route (length new)) (new ++ (7 ∷ [])) [] scratch)
+
+untouched : List ℕ
+untouched = 9 ∷ 9 ∷ []
+
+abcde : List ℕ
+abcde = 0x61 ∷ 0x62 ∷ 0x63 ∷ 0x64 ∷ 0x65 ∷ []
+
+five : List ℕ
+five = natives (5 ∷ 6 ∷ 7 ∷ 8 ∷ 9 ∷ [])
+
+p1 : List ℕ
+p1 =
+    0x05 ∷ 0 ∷ 0 ∷ 0 ∷ 0x08 ∷ 0 ∷ 0 ∷ 0
+    ∷ 2 ∷ 0 ∷ 0 ∷ 0 ∷ 4 ∷ 0 ∷ 0 ∷ 0 ∷ 2 ∷ 0 ∷ 0 ∷ 0 ∷ 0 ∷ 0 ∷ 0 ∷ 0 ∷ 0 ∷ 0 ∷ 0 ∷ 0
+    ∷ 0xFF ∷ 0xFF ∷ 0xFF ∷ 0xFF ∷ 0 ∷ 0 ∷ 0 ∷ 0 ∷ 0 ∷ 0 ∷ 0 ∷ 0 ∷ 0 ∷ 0 ∷ 0 ∷ 0 ∷ 0 ∷ 0 ∷ 0 ∷ 0
+    ∷ 8 ∷ 0 ∷ 0 ∷ 0 ∷ 1 ∷ 0 ∷ 0 ∷ 0 ∷ 2 ∷ 0 ∷ 0 ∷ 0 ∷ 0x43 ∷ 0x4F ∷ 0x4C ∷ 0x50 ∷ []
+
+-- T, null, T, F
+withNull : List ℕ
+withNull = pack (0x07 ∷ 0x0D ∷ []) (node 1 0 4 0 0 1 0 ∷ []) 4
+
+-- 1, null, 3
+nullInside : List ℕ
+nullInside = pack (padded (numbers 4 (1 ∷ 0 ∷ 3 ∷ [])) ++ (0x05 ∷ [])) (node 2 4 3 0 0 16 0 ∷ []) 3
+
+-- P1 with the list asked for: 3 places, of which 2 are stored to
+listed : Call
+listed = call (maskOf 5 0x09) five (stated 2) true (4 ∷ 5 ∷ 6 ∷ []) [] (replicate 64 7)
+
+-- a list of runs: one run of 5, and one place to spare
+sliced : Call
+sliced = call (maskOf 6 0x3E) (natives (1 ∷ 2 ∷ 3 ∷ 4 ∷ 5 ∷ 6 ∷ [])) unstated true (9 ∷ 9 ∷ 9 ∷ []) [] (replicate 80 7)
+
+bench : List Case
+bench =
+    -- P1 to P6
+    keeps 2 5 Indices (maskOf 5 0x09) five p1 untouched
+    ∷ keeps 2 4 Indices withNull (natives (1 ∷ 2 ∷ 3 ∷ 4 ∷ [])) (natives (1 ∷ 3 ∷ [])) untouched
+    ∷ keeps 4 5 Indices (maskOf 5 0x0F) five (natives (5 ∷ 6 ∷ 7 ∷ 8 ∷ [])) untouched
+    ∷ keeps 5 6 Slices (maskOf 6 0x3E) (natives (1 ∷ 2 ∷ 3 ∷ 4 ∷ 5 ∷ 6 ∷ [])) (natives (2 ∷ 3 ∷ 4 ∷ 5 ∷ 6 ∷ [])) untouched
+    ∷ keeps 0 0 None (maskOf 0 0) five (natives []) untouched
+    ∷ keeps 3 3 All (maskOf 3 0x07) (natives (1 ∷ 2 ∷ 3 ∷ [])) (natives (1 ∷ 2 ∷ 3 ∷ [])) untouched
+    -- P7
+    ∷ case (number (compress 64 0xB6 0x5A)) (number 5)
+    -- P8 to P11
+    ∷ keeps 2 3 Indices (maskOf 3 0x05) (texts 3 (0 ∷ 2 ∷ 2 ∷ 5 ∷ []) abcde) (texts 2 (0 ∷ 2 ∷ 5 ∷ []) abcde) untouched
+    ∷ keeps 2 6 Indices (maskOf 6 0x21) (runsOf 6 0 (2 ∷ 5 ∷ 6 ∷ []) (10 ∷ 20 ∷ 30 ∷ [])) (runsOf 2 0 (1 ∷ 2 ∷ []) (10 ∷ 30 ∷ [])) (0 ∷ 9 ∷ [])
+    ∷ keeps 2 3 Indices (maskOf 3 0x06) (runsOf 4 1 (2 ∷ 5 ∷ 6 ∷ []) (10 ∷ 20 ∷ 30 ∷ [])) (runsOf 2 0 (2 ∷ []) (20 ∷ [])) (0 ∷ 9 ∷ [])
+    ∷ keeps 2 3 Indices (maskOf 3 0x05) nullInside (natives (1 ∷ 3 ∷ [])) untouched
+    -- length 128: 126 picks go by runs, 125 compress; 2 stored indices go by row numbers, 3 compress
+    ∷ case (number (one (byRoute 128 126 false))) (number 1)
+    ∷ case (number (one (byRoute 128 125 false))) (number 0)
+    ∷ case (number (one (byRoute 128 2 true))) (number 1)
+    ∷ case (number (one (byRoute 128 3 true))) (number 0)
+    -- stored lists: row numbers; start and end of each run
+    ∷ case (outcome listed) (ends (Done 2 5 Indices 64) p1 (0 ∷ 3 ∷ 6 ∷ []) [])
+    ∷ case (outcome sliced) (ends (Done 5 6 Slices 80) (natives (2 ∷ 3 ∷ 4 ∷ 5 ∷ 6 ∷ [])) (1 ∷ 6 ∷ 9 ∷ []) [])
+    -- offsets are rebuilt from 0, not from the source's first
+    ∷ keeps 2 3 Indices (maskOf 3 0x05) (texts 3 (1 ∷ 3 ∷ 3 ∷ 6 ∷ []) (0x78 ∷ abcde)) (texts 2 (0 ∷ 2 ∷ 5 ∷ []) abcde) untouched
+    ∷ []
+
+refusals : List Case
+refusals =
+    refusal 1 Mask (plain 99 (replicate 15 0) five)
+    ∷ refusal 2 Mask (plain 99 (take 63 (maskOf 5 9) ++ (0 ∷ [])) five)
+    ∷ refusal 3 Journal (plain 99 (maskOf 5 9) (pack [] [] 0))
+    ∷ refusal 4 Journal (plain 99 (maskOf 5 9) (pack [] (node 99 0 5 0 0 noBitmap 0 ∷ []) 5))
+    ∷ refusal 5 Journal (plain 99 (maskOf 5 9) (pack [] (node 10 0 5 0 1 noBitmap 0 ∷ []) 5))
+    ∷ refusal 6 Journal (plain 99 (maskOf 5 9) (pack [] (node 2 4 1_048_577 0 0 noBitmap 0 ∷ []) 1_048_577))
+    ∷ refusal 7 Journal (plain 99 (maskOf 3 5) (pack (replicate 8 0) (node 2 4 3 0 0 noBitmap 0 ∷ []) 3))
+    ∷ refusal 8 Journal (plain 99 (maskOf 2 1) (texts 2 (0 ∷ 3 ∷ 2 ∷ []) abcde))
+    ∷ refusal 9 Mask (plain 99 five five)
+    ∷ refusal 10 Journal (plain 99 (maskOf 6 9) five)
+    ∷ refusal 11 Mask (call withNull [] (stated 3) false [] [] [])
+    ∷ refusal 12 Journal (call (maskOf 5 0x0B) five unstated true (4 ∷ 5 ∷ []) [] [])
+    ∷ refusal 13 Journal
+    (call (maskOf 5 9) (runsOf 9 0 (1 ∷ 2 ∷ 3 ∷ 4 ∷ 5 ∷ 6 ∷ 7 ∷ 8 ∷ 9 ∷ []) (replicate 9 1)) unstated false [] (9 ∷ []) [])
+    ∷ refusal 14 Journal (plain 63 (maskOf 5 9) five)
+    ∷ []
+
+cases : List Case
+cases = bench ++ refusals
+
+-- a test that two lists are the same, item by item: a test computes in a tenth of the time that a comparison of both sides takes
+same : {A : Type 0} → (A → A → Bool) → List A → List A → Bool
+same t [] [] = true
+same t [] (y ∷ ys) = false
+same t (x ∷ xs) [] = false
+same t (x ∷ xs) (y ∷ ys) = t x y && same t xs ys
+
+same-is : {A : Type 0} (t : A → A → Bool) → ((x y : A) → t x y ≡ true → x ≡ y) → (xs ys : List A) → same t xs ys ≡ true → xs ≡ ys
+unfolding same
+same-is t h [] [] e = refl
+same-is t h [] (y ∷ ys) e = absurd (false≢true e)
+same-is t h (x ∷ xs) [] e = absurd (false≢true e)
+same-is t h (x ∷ xs) (y ∷ ys) e =
+    let both = and-eq-true-iff (t x y) (same t xs ys) .0 e in
+    ap₂ _∷_ (h x y (both .0)) (same-is t h xs ys (both .1))
+
+test : same (same (same eqb)) (map (λ (c : Case). c .found) cases) (map (λ (c : Case). c .expected) cases) ≡ true
+unfolding Bytes.opened Words.opened Node.opened Verdict.opened Masks.opened Kept.opened Write.opened Answers.opened pack node maskOf natives texts runsOf call plain outcome case refusal keeps untouched five p1 withNull nullInside abcde listed sliced bench refusals cases routeNumber packNumber inNumbers same
+test = refl
+
+-- the one statement
+all-cases : map (λ (c : Case). c .found) cases ≡ map (λ (c : Case). c .expected) cases
+all-cases = same-is (same (same eqb)) (same-is (same eqb) (same-is eqb eqb-true)) _ _ test
+
+-- demand 3's premises hold of two calls that differ in all that must not show. The journals are a struct of five columns: native,
+-- texts, runs, a dictionary, bits; rows 0 and 3 are kept
+pieces : List (List ℕ) → List ℕ
+pieces ps = join (map padded ps)
+
+place : ℕ → List (List ℕ) → ℕ
+place k ps = length (pieces (take k ps))
+
+-- five rows, no skip, no bitmap, every byte used
+tight : List (List ℕ)
+tight =
+    numbers 4 (5 ∷ 6 ∷ 7 ∷ 8 ∷ 9 ∷ [])
+    ∷ numbers 4 (0 ∷ 2 ∷ 2 ∷ 2 ∷ 5 ∷ 5 ∷ [])
+    ∷ abcde
+    ∷ numbers 4 (1 ∷ 3 ∷ 5 ∷ [])
+    ∷ numbers 4 (10 ∷ 20 ∷ 30 ∷ [])
+    ∷ (1 ∷ 0 ∷ 0 ∷ 0 ∷ 1 ∷ [])
+    ∷ numbers 2 (100 ∷ 200 ∷ [])
+    ∷ (0x09 ∷ [])
+    ∷ []
+
+tightJournal : List ℕ
+tightJournal =
+    pack (pieces tight)
+    (node 10 0 5 0 5 noBitmap 0
+    ∷ node 2 4 5 0 0 noBitmap (place 0 tight)
+    ∷ (4 ∷ 0 ∷ 5 ∷ 0 ∷ 0 ∷ noBitmap ∷ place 1 tight ∷ place 2 tight ∷ 5 ∷ 0 ∷ [])
+    ∷ node 9 4 5 0 1 noBitmap (place 3 tight)
+    ∷ node 2 4 3 0 0 noBitmap (place 4 tight)
+    ∷ node 12 1 5 0 1 noBitmap (place 5 tight)
+    ∷ node 2 2 2 0 0 noBitmap (place 6 tight)
+    ∷ node 1 0 5 0 0 noBitmap (place 7 tight)
+    ∷ [])
+    5
+
+-- six rows, a skip in every node but the keys', bitmaps in which no kept row is null, other values, texts, runs and keys in the dropped
+-- rows, text bytes and a run that no kept row has, keys of null rows past the dictionary, spare bits set, buffers in another order
+loose : List (List ℕ)
+loose =
+    (0xAA ∷ 0xAA ∷ 0xAA ∷ [])
+    ∷ (0x4F ∷ 0xFE ∷ [])
+    ∷ numbers 2 (55 ∷ 100 ∷ 200 ∷ [])
+    ∷ (0x06 ∷ [])
+    ∷ (1 ∷ 250 ∷ 250 ∷ 0 ∷ 250 ∷ 250 ∷ [])
+    ∷ (0x09 ∷ [])
+    ∷ numbers 4 (77 ∷ 10 ∷ 99 ∷ 30 ∷ [])
+    ∷ numbers 4 (2 ∷ 4 ∷ 7 ∷ [])
+    ∷ (0x78 ∷ 0x61 ∷ 0x62 ∷ 0x79 ∷ 0x63 ∷ 0x64 ∷ 0x65 ∷ 0x7A ∷ 0x7A ∷ 0x7A ∷ [])
+    ∷ numbers 4 (0 ∷ 1 ∷ 3 ∷ 4 ∷ 4 ∷ 7 ∷ 9 ∷ 9 ∷ [])
+    ∷ (0x24 ∷ [])
+    ∷ numbers 4 (44 ∷ 45 ∷ 5 ∷ 46 ∷ 47 ∷ 8 ∷ 48 ∷ 49 ∷ [])
+    ∷ (0x90 ∷ 0xFC ∷ [])
+    ∷ []
+
+looseJournal : List ℕ
+looseJournal =
+    pack (pieces loose)
+    (node 10 0 6 4 5 (place 12 loose) 0
+    ∷ node 2 4 6 2 0 (place 10 loose) (place 11 loose)
+    ∷ (4 ∷ 0 ∷ 6 ∷ 1 ∷ 0 ∷ noBitmap ∷ place 9 loose ∷ place 8 loose ∷ 10 ∷ 0 ∷ [])
+    ∷ node 9 4 6 1 1 noBitmap (place 7 loose)
+    ∷ node 2 4 3 1 0 noBitmap (place 6 loose)
+    ∷ node 12 1 6 0 1 (place 5 loose) (place 4 loose)
+    ∷ node 2 2 2 1 0 (place 3 loose) (place 2 loose)
+    ∷ node 1 0 6 3 0 noBitmap (place 1 loose)
+    ∷ [])
+    6
+
+-- room for the whole extract of either, and eight bytes more
+one-way : Call
+one-way = call (maskOf 5 0x09) tightJournal unstated false [] (9 ∷ []) (replicate 416 7)
+
+-- another mask too: a skip, true bits that are null, spare bits set; the list asked for; more scratch
+other-way : Call
+other-way = call (pack (0x7F ∷ 0xD2 ∷ []) (node 1 0 5 1 0 1 0 ∷ []) 5) looseJournal unstated true (1 ∷ 2 ∷ 3 ∷ []) (8 ∷ 8 ∷ []) (replicate 416 7)
+
+premises-hold : Alike one-way other-way
+unfolding Bytes.opened Node.opened Verdict.opened Masks.opened Kept.opened Write.opened Answers.opened pack node maskOf call abcde pieces place tight tightJournal loose looseJournal one-way other-way
+premises-hold =
+    record {
+      maskC = refl;
+      maskD = refl;
+      journalC = refl;
+      journalD = refl;
+      oneLength = refl;
+      samePicks = refl;
+      longC = lit≤ tt;
+      longD = lit≤ tt;
+      sameColumns = refl;
+      sameKept = refl;
+      listC = refl;
+      listD = refl;
+      scratchC = refl;
+      scratchD = refl;
+      sameOutput = refl;
+      sameStated = refl;
+    }
+
+-- and neither call is refused: both give an extract of 408 bytes
+premises-succeed : answer one-way ≡ Done 2 5 Indices 408
+unfolding Bytes.opened Node.opened Verdict.opened Masks.opened Kept.opened Write.opened Answers.opened pack node maskOf call abcde pieces place tight tightJournal one-way
+premises-succeed = refl
