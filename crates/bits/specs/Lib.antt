@@ -1,0 +1,2 @@
+-- What the packer means.
+pub mod Pack

@@ -1,0 +1,40 @@
+-- A packer stands for a list of fewer than 64 bits that wait for a full word. Assumes nothing.
+use Prim.Native.Nat.{ℕ, _^_, _<_}
+use mathlib.Core.Bool.{Bool, cond}
+use mathlib.Core.List.{List, [], _++_}
+use lib.Dec.{ltb}
+use lib.ListN.{length, take, drop}
+use Rattle.format.specs.Words.{lowBits, wordOf, gather}
+use Rattle.bits.specs.declared.Packer.{Packer}
+use Rattle.bits.specs.declared.Packing.{Packing}
+use Rattle.bits.specs.declared.Packing.the-variants.{Partial, Full}
+
+-- the bits that wait: `filled` of them
+abbrev pub waiting : Packer → List Bool
+waiting p = lowBits (p .filled) (p .current)
+
+-- fewer than 64 bits wait, and the word is zero above them
+pub record Packed (p : Packer) : Type 0 where
+  pub room : p .filled < 64
+  pub clear : p .current < 2 ^ p .filled
+
+-- the bits that wait, and behind them those of value at the set bits of mask
+abbrev pub pushed : Packer → ℕ → ℕ → List Bool
+pushed p value mask = waiting p ++ gather (lowBits 64 mask) (lowBits 64 value)
+
+-- the packer in which these bits wait
+abbrev pub packerOf : List Bool → Packer
+packerOf ts = record { current = wordOf ts; filled = length ts }
+
+-- fewer than 64 bits all wait; else the first 64 are handed back as a word, and the others wait
+unfoldable pub packing : List Bool → Packing
+packing ts = cond (ltb (length ts) 64) (Partial (packerOf ts)) (Full (wordOf (take 64 ts)) (packerOf (drop 64 ts)))
+
+-- the bits handed back, and the packer that is left
+abbrev pub handed : Packing → List Bool
+handed (Partial p) = []
+handed (Full w p) = lowBits 64 w
+
+abbrev pub left : Packing → Packer
+left (Partial p) = p
+left (Full w p) = p

@@ -1,0 +1,292 @@
+// Bit sources: packed bits with an optional validity bitmap in a lent slice of bytes, read by slot, by word and by run.
+ghost use mathlib.Core.Path.{_≡_};
+ghost use mathlib.Core.Bool.{true};
+ghost use Prim.Native.Nat.{_+_, _*_, _-_, _/_, _^_, _≤_, _<_};
+ghost use lib.ListN.{length, getD};
+ghost use Rattle.format.specs.Bytes.{bitIn};
+ghost use Rattle.format.specs.Slots.{after, wordFrom, picksFrom, runsFrom, Sought};
+ghost use Rattle.slots.specs.Source.{bothSet, slotOf, wordAt, Lies, Ones, anyIn, firstRun};
+
+// Where a source's bits stand in a slice: places are in bytes, skip and len in slots.
+pub struct Bits {
+    pub values_at: usize,
+    pub has_validity: bool,
+    pub validity_at: usize,
+    pub skip: usize,
+    pub len: usize,
+}
+
+// The next maximal run of picked slots, [start, end).
+pub enum Run {
+    Span(usize, usize),
+    End,
+}
+
+// Byte j of a slice, 0 past its end.
+fn byte(s: &[u8], j: usize) -> u8
+    ensures { λ r. ⌜ r ≡ getD (now (s .entry)) j 0 ⌝ }
+{
+    if j < s.len() { s[j] } else { 0 }
+}
+
+// Bit k of a slice, false past its end; bit 0 of a byte is first.
+pub fn bit(s: &[u8], k: usize) -> bool
+    ensures { λ r. ⌜ r ≡ bitIn (now (s .entry)) k ⌝ }
+{
+    (byte(s, k / 8) >> (k % 8)) % 2 == 1
+}
+
+// Whether slot i is picked: true and not null. There is none past the last.
+pub fn slot(s: &[u8], b: Bits, i: usize) -> bool
+    requires { ⌜ Lies (now s) b ⌝ }
+    ensures { λ r. ⌜ r ≡ slotOf (now (s .entry)) b i ⌝ }
+{
+    if b.len <= i {
+        return false;
+    }
+    let k = b.skip + i;
+    if !bit(s, 8 * b.values_at + k) {
+        return false;
+    }
+    if b.has_validity {
+        return bit(s, 8 * b.validity_at + k);
+    }
+    true
+}
+
+// The eight bytes from byte j on, the first lowest, zeros past the end.
+fn load(s: &[u8], j: usize) -> u64
+    requires { ⌜ j < 2 ^ 63 ⌝ }
+    ensures { λ r. ⌜ r ≡ wordFrom (bitIn (now (s .entry))) 64 (8 * j) ⌝ }
+{
+    let mut x: u64 = 0;
+    let mut t: usize = 8;
+    while 0 < t {
+        t -= 1;
+        x = x * 256 + byte(s, j + t) as u64;
+    }
+    x
+}
+
+// The 64 bits from bit k on, low bit first, zeros past the end.
+pub fn bits64(s: &[u8], k: usize) -> u64
+    ensures { λ r. ⌜ r ≡ wordFrom (bitIn (now (s .entry))) 64 k ⌝ }
+{
+    let j = k / 8;
+    let r = k % 8;
+    (byte(s, j) as u64) >> r | load(s, j + 1) << (8 - r)
+}
+
+// A byte as a wide number, with its bound for what is made of it.
+fn wide(x: u8) -> u64
+    ensures { λ r. ⌜ (r ≡ x) × (r < 256) ⌝ }
+{
+    x as u64
+}
+
+// `bits64` where the bits and the byte after them lie in the slice: a byte and a word, with no test.
+pub fn bits64_in(s: &[u8], k: usize) -> u64
+    requires { ⌜ k / 8 + 9 ≤ length (now s) ⌝ }
+    ensures { λ r. ⌜ r ≡ wordFrom (bitIn (now (s .entry))) 64 k ⌝ }
+{
+    let j = k / 8;
+    let r = k % 8;
+    wide(s[j]) >> r | words::get64(s, j + 1) << (8 - r)
+}
+
+// The 64 slots from i on, low bit first; past the last slot, whatever bits stand there.
+fn both64(s: &[u8], b: Bits, i: usize) -> u64
+    requires { ⌜ Lies (now s) b ⌝ }
+    requires { ⌜ i ≤ b .len ⌝ }
+    ensures { λ r. ⌜ r ≡ wordFrom (bothSet (now (s .entry)) b) 64 i ⌝ }
+{
+    let k = b.skip + i;
+    let x = bits64(s, 8 * b.values_at + k);
+    if b.has_validity {
+        return x & bits64(s, 8 * b.validity_at + k);
+    }
+    x
+}
+
+// `word` near the end of the slots, where its reads may leave the slice and its bits the last slot.
+fn last_word(s: &[u8], b: Bits, w: usize) -> u64
+    requires { ⌜ Lies (now s) b ⌝ }
+    requires { ⌜ 64 * w ≤ b .len ⌝ }
+    ensures { λ r. ⌜ r ≡ wordAt (now (s .entry)) b w ⌝ }
+{
+    let left = b.len - 64 * w;
+    let x = both64(s, b, 64 * w);
+    if left < 64 { x % (1 << left) } else { x }
+}
+
+// `word` where another whole word follows, so that no read can leave the slice: small enough to be compiled into its callers' loops,
+// which choose between the two.
+pub fn word_in(s: &[u8], b: Bits, w: usize) -> u64
+    requires { ⌜ Lies (now s) b ⌝ }
+    requires { ⌜ 64 * w + 128 ≤ b .len ⌝ }
+    ensures { λ r. ⌜ r ≡ wordAt (now (s .entry)) b w ⌝ }
+{
+    let k = b.skip + 64 * w;
+    let x = bits64_in(s, 8 * b.values_at + k);
+    if b.has_validity {
+        return x & bits64_in(s, 8 * b.validity_at + k);
+    }
+    x
+}
+
+// Slots 64 w to 64 w + 63, low bit first, zero-filled past the last slot.
+pub fn word(s: &[u8], b: Bits, w: usize) -> u64
+    requires { ⌜ Lies (now s) b ⌝ }
+    requires { ⌜ 64 * w ≤ b .len ⌝ }
+    ensures { λ r. ⌜ r ≡ wordAt (now (s .entry)) b w ⌝ }
+{
+    let len = b.len;
+    if 64 * w + 128 <= len {
+        return word_in(s, b, w);
+    }
+    last_word(s, b, w)
+}
+
+// What is left of the word of slot `from`: its set bits at or after that slot.
+pub fn word_after(s: &[u8], b: Bits, from: usize) -> u64
+    requires { ⌜ Lies (now s) b ⌝ }
+    requires { ⌜ from ≤ b .len ⌝ }
+    ensures { λ r. ⌜ r ≡ wordFrom (after (slotOf (now (s .entry)) b) from) 64 (64 * (from / 64)) ⌝ }
+{
+    word(s, b, from / 64) >> (from % 64) << (from % 64)
+}
+
+// How many slots are picked.
+pub fn count(s: &[u8], b: Bits) -> usize
+    requires { ⌜ Lies (now s) b ⌝ }
+    ensures { λ r. ⌜ r ≡ length (picksFrom (slotOf (now (s .entry)) b) (b .len) 0) ⌝ }
+{
+    let mut n: usize = 0;
+    let mut w: usize = 0;
+    let len = b.len;
+    while 64 * w < len {
+        let x = if 64 * w + 128 <= len {
+            word_in(s, b, w)
+        } else {
+            word(s, b, w)
+        };
+        n += u64::count_ones(x) as usize;
+        w += 1;
+    }
+    n
+}
+
+// A word whose slots are all picked.
+pub const ONES: u64 = 0xFFFF_FFFF_FFFF_FFFF;
+
+// The word at which the words of ones from word `from` on end. The last two words are not looked at: they need not be whole.
+pub fn ones_end(s: &[u8], b: Bits, from: usize) -> usize
+    requires { ⌜ Lies (now s) b ⌝ }
+    requires { ⌜ 64 * from < b .len ⌝ }
+    ensures { λ r. ⌜ Ones (slotOf (now (s .entry)) b) from (b .len) r ⌝ }
+{
+    let len = b.len;
+    let mut w = from;
+    while 64 * w + 128 <= len {
+        if word_in(s, b, w) != ONES {
+            return w;
+        }
+        w += 1;
+    }
+    w
+}
+
+// The next maximal run of picked slots at or after `from`.
+pub fn next_run(s: &[u8], b: Bits, from: usize) -> Run
+    requires { ⌜ Lies (now s) b ⌝ }
+    ensures { λ r. ⌜ r ≡ firstRun (runsFrom (slotOf (now (s .entry)) b) (b .len - from) from) ⌝ }
+{
+    if b.len <= from {
+        return Run::End;
+    }
+    let mut w = from / 64;
+    // What is left of word w: its set bits at or after e.
+    let mut x = word_after(s, b, from);
+    // The run so far, [a, e); none yet where a is e.
+    let mut a = from;
+    let mut e = from;
+    let end = 'words: loop {
+        while x != 0 {
+            let k = 64 * w + u64::trailing_zeros(x) as usize;
+            if a == e {
+                a = k;
+            } else if k != e {
+                break 'words e;
+            }
+            e = k + 1;
+            x = x & std::num::wrapping_sub_u64(x, 1);
+        }
+        w += 1;
+        if b.len <= 64 * w {
+            break e;
+        }
+        if a < e {
+            if e < 64 * w {
+                break e;
+            }
+            // The run goes on: whole words of it are passed at once.
+            w = ones_end(s, b, w);
+            e = 64 * w;
+        }
+        x = word(s, b, w);
+    };
+    if a < end { Run::Span(a, end) } else { Run::End }
+}
+
+// How many maximal runs of picked slots there are.
+pub fn count_runs(s: &[u8], b: Bits) -> usize
+    requires { ⌜ Lies (now s) b ⌝ }
+    ensures { λ r. ⌜ r ≡ length (runsFrom (slotOf (now (s .entry)) b) (b .len) 0) ⌝ }
+{
+    let mut n: usize = 0;
+    let mut at: usize = 0;
+    loop {
+        match next_run(s, b, at) {
+            Run::Span(_, e) => {
+                n += 1;
+                at = e;
+            }
+            Run::End => break,
+        }
+    }
+    n
+}
+
+// The first picked slot of [from, end), or end where there is none. No word past end's is looked at.
+pub fn next_row(s: &[u8], b: Bits, from: usize, end: usize) -> usize
+    requires { ⌜ Lies (now s) b ⌝ }
+    requires { ⌜ (from ≤ end) × (end ≤ b .len) ⌝ }
+    ensures { λ r. ⌜ Sought (slotOf (now (s .entry)) b) from end true r ⌝ }
+{
+    if end <= from {
+        return end;
+    }
+    let mut w = from / 64;
+    let mut x = word_after(s, b, from);
+    while x == 0 {
+        w += 1;
+        if end <= 64 * w {
+            return end;
+        }
+        x = word(s, b, w);
+    }
+    let k = 64 * w + u64::trailing_zeros(x) as usize;
+    if k < end { k } else { end }
+}
+
+// Whether any slot of [lo, hi) is picked.
+pub fn any_picked(s: &[u8], b: Bits, lo: usize, hi: usize) -> bool
+    requires { ⌜ Lies (now s) b ⌝ }
+    ensures { λ r. ⌜ r ≡ anyIn (slotOf (now (s .entry)) b) lo hi ⌝ }
+{
+    let end = if hi < b.len { hi } else { b.len };
+    if end <= lo {
+        return false;
+    }
+    next_row(s, b, lo, end) < end
+}
