@@ -1,0 +1,4 @@
+-- What the contracts of this crate cite beside the definitions of `format`.
+pub mod Laid
+pub mod Read
+pub mod Tree

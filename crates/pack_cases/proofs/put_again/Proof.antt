@@ -1,0 +1,20 @@
+-- `pack_cases::put_again` meets its contract: what is left to put falls, and the pack keeps its length. Assumes nothing.
+use Prim.Native.Nat.{_≤_}
+use borrow.Author.Needs.{needs}
+use lib.ListN.{length}
+use mathlib.Core.Path.{_≡_, refl}
+use native.Mathlib.Omega.{arith}
+use Rattle.pack_cases.proofs.put_again.Statement.{statement}
+use Rattle.pack_cases.proofs.put_again.Tie as tie
+
+abbrev Inv-loop : tie.InvT-loop
+Inv-loop pack₀ at times here₀ left₀ pack here left = (left ≤ left₀) × (length pack ≡ length pack₀)
+
+abbrev μ-loop : tie.MeasureT-loop
+μ-loop pack₀ at times here₀ left₀ pack here left = left
+
+loop-holds : tie.Need-loop-holds Inv-loop μ-loop
+loop-holds c = (omega arith, refl)
+
+pub put-again-spec : {M : Type 1} → statement M
+put-again-spec = tie.close (tie.spec Inv-loop μ-loop (λ c. search needs) loop-holds (λ c. search needs) (λ c. search needs) (λ c. search needs) (λ c. search needs) (λ c. search needs) (λ c κs. search needs) (λ c. search needs) (λ c. search needs) (λ c. search needs) (λ c. search needs) (λ c. search needs))
