@@ -1,0 +1,4 @@
+-- The laws of the bytes of rows.
+pub mod CellLaws
+pub mod TextLaws
+pub mod NodeLaws

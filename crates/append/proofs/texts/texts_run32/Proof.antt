@@ -1,0 +1,58 @@
+-- `append::texts::texts_run32` meets its contract. The own bytes of consecutive rows are one part of the data. Assumes nothing.
+use mathlib.Core.Path.{_≡_}
+use native.Mathlib.Omega.{arith}
+use borrow.Author.Needs.{needs}
+use Rattle.format.proofs.Put.{named}
+use Rattle.append.specs.Cells.{offset}
+use Rattle.append.proofs.TextLaws.{run-order, run-inside, run-texts, run-length}
+use Rattle.append.proofs.texts.texts_run32.Statement.{statement}
+use Rattle.append.proofs.texts.texts_run32.Tie as tie
+
+module _ (c : tie.After-get322) where
+  low-is : c .before .get32 .result ≡ offset 4 (c .before .before .before .before .args .src .now) (c .before .before .before .before .args .first) (c .before .before .before .before .args .a)
+  unfolding offset
+  low-is = c .before .get32 .ensures .0
+
+  high-is : c .get322 .result ≡ offset 4 (c .before .before .before .before .args .src .now) (c .before .before .before .before .args .first) (c .before .before .before .before .args .e)
+  unfolding offset
+  high-is = c .get322 .ensures .0
+
+add-copy : tie.Need-add-copy
+add-copy c =
+    let s = c .before .before .before .before .before .pre .0 in
+    omega (arith, run-inside (s .1) (s .0) (low-is (c .before)) (high-is (c .before)))
+
+sub-copy : tie.Need-sub-copy
+sub-copy c =
+    let s = c .before .before .before .before .before .pre .0 in
+    run-order (s .1) (s .0) (low-is (c .before)) (high-is (c .before))
+
+copy-requires : tie.Need-copy-requires
+copy-requires c κs =
+    let s = c .before .before .before .before .before .pre in
+    let long = run-length (s .0 .1) (s .0 .0) (low-is (c .before)) (high-is (c .before)) in
+    (rw long at (s .1), run-inside (s .0 .1) (s .0 .0) (low-is (c .before)) (high-is (c .before)))
+
+returns : tie.Need-returns
+returns c =
+    let t = c .before .before .before .before in
+    let s = t .before .before .before .before .pre .0 in
+    named (c .before .before .copy .ensures) (run-texts (s .1) (s .0) (low-is t) (high-is t))
+
+pub texts-run32-spec : {M : Type 1} → statement M
+texts-run32-spec =
+    tie.close
+    (tie.spec
+    (λ c. search needs)
+    (λ c. search needs)
+    (λ c κs. search needs)
+    (λ c. search needs)
+    (λ c. search needs)
+    (λ c. search needs)
+    (λ c κs. search needs)
+    (λ c. search needs)
+    add-copy
+    sub-copy
+    copy-requires
+    (λ c. search needs)
+    returns)

@@ -1,0 +1,2 @@
+-- The byte strings that the writers' contracts name.
+pub mod Cells

@@ -1,0 +1,2 @@
+-- What the program `extract` prints.
+pub mod Report
