@@ -1,0 +1,47 @@
+-- Blocks of kept rows: which rows each form of block has, and what asking for the next one answers. Assumes nothing.
+use Prim.Native.Nat.{ℕ, _-_, _≤_, _<_}
+use mathlib.Core.Bool.{Bool}
+use mathlib.Core.List.{List, [], _++_}
+use mathlib.Core.Path.{_≡_}
+use lib.ListN.{length}
+use Rattle.format.specs.Bytes.{bytesAt}
+use Rattle.format.specs.Rows.{setRows}
+use Rattle.format.specs.Slots.{countUp}
+use Rattle.predicate.specs.declared.Selection.{Selection}
+use Rattle.predicate.specs.declared.Cursor.{Cursor}
+use Rattle.predicate.specs.declared.Block.{Block}
+use Rattle.predicate.specs.declared.Block.the-variants.{Run, Word, Listed, End}
+use Rattle.predicate.specs.Selection.{picksOn, InStep}
+
+-- the rows of a block
+abbrev pub blockRows : Block → List ℕ → List ℕ
+blockRows (Run a e d) list = countUp (e - a) a
+blockRows (Word base x d) list = setRows base x
+blockRows (Listed i j d) list = bytesAt list i (j - i)
+blockRows End list = []
+
+-- the picked rows from `from` on are xs, and then those from `place` on
+pub record Leaves (p : ℕ → Bool) (len from : ℕ) (xs : List ℕ) (place : ℕ) : Type 0 where
+  pub rest : picksOn p len from ≡ xs ++ picksOn p len place
+  pub moves : from < place
+  pub inside : place ≤ len
+
+-- the same, with a cursor d that is in step
+pub record Gives (sel : Selection) (p : ℕ → Bool) (len : ℕ) (list : List ℕ) (from : ℕ) (xs : List ℕ) (d : Cursor) : Type 0 where
+  pub rest : picksOn p len from ≡ xs ++ picksOn p len (d .place)
+  pub moves : from < d .place
+  pub step : InStep sel p len list d
+
+-- what asking for the next block answers: one, which lies in the rows or in the list, or End where no row is left
+abbrev pub Blocked : Selection → (ℕ → Bool) → ℕ → List ℕ → ℕ → Block → Type 0
+Blocked sel p len list from (Run a e d) = (a ≤ e) × (e ≤ len) × Gives sel p len list from (blockRows (Run a e d) list) d
+Blocked sel p len list from (Word base x d) = (base ≤ len) × Gives sel p len list from (blockRows (Word base x d) list) d
+Blocked sel p len list from (Listed i j d) = (i ≤ j) × (j ≤ length list) × Gives sel p len list from (blockRows (Listed i j d) list) d
+Blocked sel p len list from End = picksOn p len from ≡ []
+
+-- and what the mask alone answers, by its words
+abbrev pub Worded : (ℕ → Bool) → ℕ → ℕ → Block → Type 0
+Worded p len from (Run a e d) = (a ≤ e) × (e ≤ len) × Leaves p len from (blockRows (Run a e d) []) (d .place)
+Worded p len from (Word base x d) = (base ≤ len) × Leaves p len from (blockRows (Word base x d) []) (d .place)
+Worded p len from (Listed i j d) = ⊥
+Worded p len from End = picksOn p len from ≡ []

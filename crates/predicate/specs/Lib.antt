@@ -1,0 +1,4 @@
+-- What the contracts of this crate cite.
+pub mod Selection
+pub mod Blocks
+pub mod Prepare

@@ -1,0 +1,321 @@
+// From a mask's bits to the rows that every column filter takes: the selection, its stored list, and blocks of kept rows.
+ghost use mathlib.Core.Path.{_≡_};
+ghost use Prim.Native.Nat.{_+_, _^_, _≤_, _<_};
+ghost use lib.ListN.{length};
+ghost use Rattle.format.specs.Put.{Wrote};
+ghost use Rattle.format.specs.Rows.{setRows, Below};
+ghost use Rattle.format.specs.Slots.{picksFrom, runsFrom, startsAndEnds};
+ghost use Rattle.format.specs.Verdict.{maskVerdict};
+ghost use Rattle.format.specs.Answer.{unstated, statedIf, wrongCount, preparing, Prepares};
+ghost use Rattle.slots.specs.Source.{slotOf, Lies};
+ghost use Rattle.slots.specs.Node.{bitsOf};
+ghost use Rattle.predicate.specs.Selection.{InStep, keptBy, Readable, entriesOn, selectionFor};
+ghost use Rattle.predicate.specs.Blocks.{Worded, Blocked};
+ghost use Rattle.predicate.specs.Prepare.{Counted, Answered};
+use format::Pack;
+use format::Prepared;
+use format::Route;
+use pack::read::node_at;
+use slots::Bits;
+use slots::Run;
+
+// How many entries of the lent list are stored; or none are, and the mask is read each time.
+pub enum Held {
+    Stored(usize),
+    Lazy,
+}
+
+// Which rows are kept: none, all of so many, or those of runs or of row numbers.
+pub enum Selection {
+    Nothing,
+    Everything(usize),
+    Runs(Held),
+    Rows(Held),
+}
+
+// How far a selection is walked: rows below `place` are done, and entries below `index` of a stored list.
+pub struct Cursor {
+    pub place: usize,
+    pub index: usize,
+}
+
+// The next kept rows, and the cursor after them: a run [a, e); the rows base + k for the set bits k of a word; entries i to j of the stored list.
+pub enum Block {
+    Run(usize, usize, Cursor),
+    Word(usize, u64, Cursor),
+    Listed(usize, usize, Cursor),
+    End,
+}
+
+// The rest of the word of the mask that `place` is in; words of ones are joined to a run. For a selection that goes by the mask alone.
+fn next_word(s: &[u8], b: Bits, place: usize, index: usize) -> Block
+    requires { ⌜ Lies (now s) b ⌝ }
+    ensures { λ r. ⌜ Worded (slotOf (now (s .entry)) b) (b .len) place r ⌝ }
+{
+    let len = b.len;
+    if len <= place {
+        return Block::End;
+    }
+    let w = place / 64;
+    let base = 64 * w;
+    let x = slots::word_after(s, b, place);
+    if len <= base + 64 {
+        return Block::Word(base, x, Cursor { place: len, index });
+    }
+    if x == slots::ONES {
+        let e = 64 * slots::ones_end(s, b, w + 1);
+        return Block::Run(base, e, Cursor { place: e, index });
+    }
+    Block::Word(
+        base,
+        x,
+        Cursor {
+            place: base + 64,
+            index,
+        },
+    )
+}
+
+// The next block of kept rows, whatever the selection: the one place that looks at it.
+pub fn next_block(sel: Selection, s: &[u8], b: Bits, list: &[u32], cur: Cursor) -> Block
+    requires { ⌜ Readable sel (now s) b ⌝ }
+    requires { ⌜ InStep sel (keptBy sel (now s) b) (b .len) (now list) cur ⌝ }
+    ensures { λ r. ⌜ Blocked sel (keptBy sel (now (s .entry)) b) (b .len) (now (list .entry)) (cur .place) r ⌝ }
+{
+    let place = cur.place;
+    let index = cur.index;
+    let len = b.len;
+    match sel {
+        Selection::Nothing => return Block::End,
+        Selection::Everything(n) => {
+            if place < n {
+                return Block::Run(place, n, Cursor { place: n, index });
+            }
+            return Block::End;
+        }
+        Selection::Runs(h) => match h {
+            Held::Stored(n) => {
+                if index < n {
+                    let a = list[index] as usize;
+                    let e = list[index + 1] as usize;
+                    return Block::Run(
+                        a,
+                        e,
+                        Cursor {
+                            place: e,
+                            index: index + 2,
+                        },
+                    );
+                }
+                return Block::End;
+            }
+            Held::Lazy => return next_word(s, b, place, index),
+        },
+        Selection::Rows(h) => match h {
+            Held::Stored(n) => {
+                if index < n {
+                    return Block::Listed(
+                        index,
+                        n,
+                        Cursor {
+                            place: len,
+                            index: n,
+                        },
+                    );
+                }
+                return Block::End;
+            }
+            Held::Lazy => return next_word(s, b, place, index),
+        },
+    }
+}
+
+// The rows base + k for the set bits k of a word, at place `at` of the list.
+fn put_word(list: &mut [u32], at: usize, base: usize, word: u64) -> usize
+    requires { ⌜ Below (2 ^ 32) (setRows base word) ⌝ }
+    requires { ⌜ at + length (setRows base word) ≤ length (now list) ⌝ }
+    ensures { λ r. ⌜ Wrote (now (list .entry)) at (setRows base word) (now (list .exit)) r ⌝ }
+{
+    let mut here = at;
+    let mut x = word;
+    while x != 0 {
+        let row = base + u64::trailing_zeros(x) as usize;
+        x = x & std::num::wrapping_sub_u64(x, 1);
+        list[here] = row as u32;
+        here += 1;
+    }
+    here
+}
+
+// The picked rows, at the front of the list: how many.
+fn store_rows(s: &[u8], b: Bits, list: &mut [u32]) -> usize
+    requires { ⌜ Lies (now s) b ⌝ }
+    requires { ⌜ (b .len < 2 ^ 32) × (length (picksFrom (slotOf (now s) b) (b .len) 0) ≤ length (now list)) ⌝ }
+    ensures { λ r. ⌜ Wrote (now (list .entry)) 0 (picksFrom (slotOf (now (s .entry)) b) (b .len) 0) (now (list .exit)) r ⌝ }
+{
+    let len = b.len;
+    let mut here = 0;
+    let mut w: usize = 0;
+    while 64 * w < len {
+        let x = if 64 * w + 128 <= len {
+            slots::word_in(s, b, w)
+        } else {
+            slots::word(s, b, w)
+        };
+        here = put_word(list, here, 64 * w, x);
+        w += 1;
+    }
+    here
+}
+
+// Start and end of each maximal run of picked rows, at the front of the list: how many entries.
+fn store_runs(s: &[u8], b: Bits, list: &mut [u32]) -> usize
+    requires { ⌜ Lies (now s) b ⌝ }
+    requires { ⌜ (b .len < 2 ^ 32) × (length (startsAndEnds (runsFrom (slotOf (now s) b) (b .len) 0)) ≤ length (now list)) ⌝ }
+    ensures { λ r. ⌜ Wrote (now (list .entry)) 0 (startsAndEnds (runsFrom (slotOf (now (s .entry)) b) (b .len) 0)) (now (list .exit)) r ⌝ }
+{
+    let mut here = 0;
+    let mut place = 0;
+    loop {
+        match slots::next_run(s, b, place) {
+            Run::Span(a, e) => {
+                list[here] = a as u32;
+                list[here + 1] = e as u32;
+                here += 2;
+                place = e;
+            }
+            Run::End => break,
+        }
+    }
+    here
+}
+
+// How many entries the route's list has, where the mask picks `kept` slots.
+pub fn list_entries(s: &[u8], b: Bits, route: Route, kept: usize) -> usize
+    requires { ⌜ Lies (now s) b ⌝ }
+    requires { ⌜ (b .len < 2 ^ 32) × (kept ≡ length (picksFrom (slotOf (now s) b) (b .len) 0)) ⌝ }
+    ensures { λ r. ⌜ r ≡ length (entriesOn route (slotOf (now (s .entry)) b) (b .len)) ⌝ }
+{
+    match route {
+        Route::None => 0,
+        Route::All => 0,
+        Route::Slices => 2 * slots::count_runs(s, b),
+        Route::Indices => kept,
+    }
+}
+
+// The route's entries, at the front of the list: how many.
+pub fn store_list(s: &[u8], b: Bits, route: Route, list: &mut [u32]) -> usize
+    requires { ⌜ Lies (now s) b ⌝ }
+    requires { ⌜ (b .len < 2 ^ 32) × (length (entriesOn route (slotOf (now s) b) (b .len)) ≤ length (now list)) ⌝ }
+    ensures { λ r. ⌜ Wrote (now (list .entry)) 0 (entriesOn route (slotOf (now (s .entry)) b) (b .len)) (now (list .exit)) r ⌝ }
+{
+    match route {
+        Route::None => 0,
+        Route::All => 0,
+        Route::Slices => store_runs(s, b, list),
+        Route::Indices => store_rows(s, b, list),
+    }
+}
+
+// The selection of a route over `len` slots, whose list has n entries where it is stored.
+pub fn selection_of(route: Route, stored: bool, len: usize, n: usize) -> Selection
+    ensures { λ r. ⌜ r ≡ selectionFor route stored len n ⌝ }
+{
+    let held = if stored { Held::Stored(n) } else { Held::Lazy };
+    match route {
+        Route::None => Selection::Nothing,
+        Route::All => Selection::Everything(len),
+        Route::Slices => Selection::Runs(held),
+        Route::Indices => Selection::Rows(held),
+    }
+}
+
+// Validity at this place: no bitmap.
+const NO_BITMAP: u32 = 0xFFFF_FFFF;
+
+// Where a mask's bits stand.
+pub fn mask_bits(mask: &[u8]) -> Bits
+    ensures { λ r. ⌜ r ≡ bitsOf (now (mask .entry)) 0 ⌝ }
+{
+    let n = node_at(mask, 0);
+    Bits {
+        values_at: n.first_at as usize,
+        has_validity: n.validity_at != NO_BITMAP,
+        validity_at: n.validity_at as usize,
+        skip: n.skip as usize,
+        len: n.rows as usize,
+    }
+}
+
+// Whether a count is stated and wrong.
+pub fn wrong_count(states: bool, stated: u64, kept: usize) -> bool
+    ensures { λ r. ⌜ r ≡ wrongCount (statedIf states stated) kept ⌝ }
+{
+    if states {
+        return stated != kept as u64;
+    }
+    false
+}
+
+// The answer once the mask is accepted and the count is right: the list is stored where it is asked for, and refused where it is short.
+fn prepare_list(mask: &[u8], b: Bits, kept: usize, asked: bool, list: &mut [u32]) -> Prepared
+    requires { ⌜ Counted (now mask) b kept ⌝ }
+    ensures { λ r. ⌜ Answered (preparing (now (mask .entry)) unstated asked (now (list .entry))) r (now (list .exit)) ⌝ }
+{
+    let len = b.len;
+    let route = Route::default_strategy(len, kept);
+    let ready = Prepared::Ready {
+        kept: kept as u64,
+        slots: len as u64,
+        route,
+    };
+    if !asked {
+        return ready;
+    }
+    if list.len() < list_entries(mask, b, route, kept) {
+        return Prepared::Refused {
+            number: 12,
+            pack: Pack::Journal,
+        };
+    }
+    store_list(mask, b, route, list);
+    ready
+}
+
+// The answer once the mask is accepted.
+fn prepare_accepted(
+    mask: &[u8],
+    states: bool,
+    stated: u64,
+    asked: bool,
+    list: &mut [u32],
+) -> Prepared
+    requires { ⌜ maskVerdict (now mask) ≡ 0 ⌝ }
+    ensures { λ r. ⌜ Prepares (preparing (now (mask .entry)) (statedIf states stated) asked (now (list .entry))) r (now (list .exit)) ⌝ }
+{
+    let b = mask_bits(mask);
+    let kept = slots::count(mask, b);
+    if wrong_count(states, stated, kept) {
+        return Prepared::Refused {
+            number: 11,
+            pack: Pack::Mask,
+        };
+    }
+    prepare_list(mask, b, kept, asked, list)
+}
+
+// A mask prepared alone, whatever bytes it is: how many slots it keeps, how many it has and its route, with the list stored where it is asked
+// for; or the slip by which a call with it would be refused.
+pub fn prepare(mask: &[u8], states: bool, stated: u64, asked: bool, list: &mut [u32]) -> Prepared
+    ensures { λ r. ⌜ Prepares (preparing (now (mask .entry)) (statedIf states stated) asked (now (list .entry))) r (now (list .exit)) ⌝ }
+{
+    let number = pack::check_mask(mask);
+    if number != 0 {
+        return Prepared::Refused {
+            number,
+            pack: Pack::Mask,
+        };
+    }
+    prepare_accepted(mask, states, stated, asked, list)
+}
