@@ -1,0 +1,4 @@
+-- Laws of bitmaps in scratch.
+pub mod Packing
+pub mod Stored
+pub mod Filling

@@ -1,0 +1,112 @@
+-- The tests of rows packed a byte at a time. Assumes nothing.
+use Prim.Native.Nat.{ℕ, zero, suc, _+_, _-_, _*_, _/_, _%_, _≤_, _<_, min}
+use mathlib.Core.Bool.{Bool, true, false}
+use mathlib.Core.List.{List, [], _∷_, _++_, append-nil}
+use mathlib.Core.Logic.{dite}
+use mathlib.Core.Path.{_≡_, refl, sym, ap, _∙_}
+use native.Mathlib.Nat.{lt-of-lt-of-le, add-zero, add-suc, suc-add}
+use native.Mathlib.Decide.{decLe}
+use native.Mathlib.Omega.{arith}
+use mir.Val.{boolByte}
+use lib.ListN.{length, getD, set}
+use lib.Pow.{pow-mono}
+use Rattle.format.specs.Bytes.{table, one, toLe, bytesFor, packed, bitIn}
+use Rattle.format.specs.Words.{wordOf}
+use Rattle.format.specs.Slots.{slotsFrom, wordFrom}
+use Rattle.format.specs.Put.{Wrote}
+use Rattle.format.proofs.Put.{Left, room, stored, done}
+use Rattle.format.proofs.Measure.{length-packed}
+use Rattle.format.proofs.SlotLaws.{length-slots, slots-cat}
+use Rattle.format.proofs.WordLaws.{word-lt, from-lt}
+use Rattle.format.proofs.PackedLaws.{packed-word, packed-append, bit-packed}
+
+-- ---- a byte made row by row, the last row first
+
+byte-one : (t : Bool) → boolByte t ≡ one t
+byte-one true = refl
+byte-one false = refl
+
+module _ (p : ℕ → Bool) where
+  -- fewer than eight rows leave room for one more
+  pub word-few : (n i x : ℕ) → x ≡ wordFrom p n i → n ≤ 7 → x < 128
+  word-few n i x e h = rw e (lt-of-lt-of-le (from-lt p n i) (pow-mono h))
+
+  pub word-none : (to : ℕ) → 0 ≡ wordFrom p (to - to) to
+  unfolding wordFrom slotsFrom wordOf
+  word-none to = let e : to - to ≡ 0 = omega arith in rw e
+
+  -- the row before them is the lowest bit
+  pub word-more : (to r row x : ℕ) (t : Bool) → row + 1 ≡ r → r ≤ to → x ≡ wordFrom p (to - r) r → t ≡ p row → 2 * x + boolByte t ≡ wordFrom p (to - row) row
+  unfolding wordFrom slotsFrom wordOf
+  word-more to r row x t er l ex et =
+      let n : to - row ≡ suc (to - r) = omega arith in
+      let s : suc row ≡ r = omega arith in
+      rw (n, s, ← et) (omega (arith, byte-one t))
+
+-- ---- bytes of rows
+
+-- at most eight bits are one byte
+packed-byte : (ts : List Bool) → 0 < length ts → length ts ≤ 8 → packed ts ≡ wordOf ts ∷ []
+unfolding bytesFor toLe table
+packed-byte ts h l =
+    let few : bytesFor (length ts) ≡ 1 = omega arith in
+    let small : wordOf ts < 256 = lt-of-lt-of-le (word-lt ts) (pow-mono l) in
+    let low : wordOf ts / 1 % 256 ≡ wordOf ts = omega arith in
+    packed-word ts ∙ rw few (ap (_∷ []) low)
+
+packed-none : packed [] ≡ []
+unfolding packed bytesFor table
+packed-none = refl
+
+-- the first eight of the rows from r on, or as many as there are, and the bytes of the others
+byte-next : (p : ℕ → Bool) (len r next : ℕ) → r < len → next ≡ min len (r + 8) → packed (slotsFrom p (len - r) r) ≡ wordFrom p (next - r) r ∷ packed (slotsFrom p (len - next) next)
+unfolding wordFrom slotsFrom
+byte-next p len r next h e =
+    let m : ℕ = next - r in
+    let all : len - r ≡ m + (len - next) = omega arith in
+    let place : r + m ≡ next = omega arith in
+    let xs = slotsFrom p m r in
+    let ys = slotsFrom p (len - next) next in
+    let long : length xs ≡ m = length-slots p m r in
+    let cut : slotsFrom p (len - r) r ≡ xs ++ ys = ap (λ (k : ℕ). slotsFrom p k r) all ∙ slots-cat p m (len - next) r ∙ ap (λ (k : ℕ). xs ++ slotsFrom p (len - next) k) place in
+    let first : packed xs ≡ wordOf xs ∷ [] = packed-byte xs (omega arith) (omega arith) in
+    let both : packed (xs ++ ys) ≡ packed xs ++ packed ys =
+    dite (decLe (r + 8) len) (λ full. packed-append 1 xs ys (omega arith))
+    (λ last. let none : len - next ≡ 0 = omega arith in rw (none, append-nil, packed-none, append-nil)) in
+    ap packed cut ∙ both ∙ rw first
+
+-- ---- a bitmap written byte by byte
+
+module _ (p : ℕ → Bool) (n : ℕ) where
+  pub length-rows : length (packed (slotsFrom p n 0)) ≡ bytesFor n
+  length-rows = length-packed (slotsFrom p n 0) ∙ ap bytesFor (length-slots p n 0)
+
+  pub rows-all : packed (slotsFrom p (n - 0) 0) ≡ packed (slotsFrom p n 0)
+  rows-all = let e : n - 0 ≡ n = omega arith in rw e
+
+  rows-none : (r : ℕ) → n ≤ r → packed (slotsFrom p (n - r) r) ≡ []
+  unfolding slotsFrom
+  rows-none r h = let e : n - r ≡ 0 = omega arith in rw e packed-none
+
+-- the rows from r on are left to write
+module _ (p : ℕ → Bool) (len r : ℕ) {old : List ℕ} {at : ℕ} {new : List ℕ} {here : ℕ} (l : Left old at (packed (slotsFrom p len 0)) new here (packed (slotsFrom p (len - r) r))) where
+  module _ (next : ℕ) (h : r < len) (e : next ≡ min len (r + 8)) where
+    pub byte-room : at + bytesFor len ≤ length old → here < length new
+    byte-room fit = omega (arith, room (wordFrom p (next - r) r ∷ []) _ l (byte-next p len r next h e) (rw (length-rows p len) fit))
+
+    pub byte-stored : (x : ℕ) → x ≡ wordFrom p (next - r) r → Left old at (packed (slotsFrom p len 0)) (set new here x) (here + 1) (packed (slotsFrom p (len - next) next))
+    byte-stored x ex = stored l (rw ex (byte-next p len r next h e)) refl
+
+  pub bytes-done : (n : ℕ) → len ≡ n → len ≤ r → Wrote old at (packed (slotsFrom p n 0)) new here
+  bytes-done n e h = rw (← e) (done l (rows-none p len r h) refl)
+
+-- ---- its bits
+
+getD-slots : (p : ℕ → Bool) (n i j : ℕ) → j < n → getD (slotsFrom p n i) j false ≡ p (i + j)
+unfolding slotsFrom
+getD-slots p zero i j h = absurd (omega arith)
+getD-slots p (suc n) i zero h = ap p (sym (add-zero i))
+getD-slots p (suc n) i (suc j) h = getD-slots p n (suc i) j (omega arith) ∙ rw (suc-add, add-suc)
+
+pub bit-rows : (p : ℕ → Bool) (n j : ℕ) → j < n → bitIn (packed (slotsFrom p n 0)) j ≡ p j
+bit-rows p n j h = bit-packed (slotsFrom p n 0) j ∙ getD-slots p n 0 j h ∙ ap p (omega arith)

@@ -1,0 +1,138 @@
+-- How many rows a node keeps by its parent's kind, and how many data bytes it has by its own. Assumes nothing.
+use Prim.Native.Nat.{ℕ, _+_, _*_, _<_, _≤_}
+use mathlib.Core.List.{List, [], _∷_, map}
+use mathlib.Core.Path.{_≡_, refl, sym, ap, _∙_}
+use native.Mathlib.Omega.{arith}
+use lib.ListN.{length, getD}
+use Rattle.format.specs.Bytes.{join}
+use Rattle.format.specs.declared.Kind.{Kind}
+use Rattle.format.specs.declared.Kind.the-variants.{Bits, Native, Fixed, Bytes32, Bytes64, Views, Lists32, Lists64, Runs, Struct, Union, Dictionary, Unknown}
+use Rattle.format.specs.Node.{nodeCount, kindNumber, kind, rows, parent, secondLength}
+use Rattle.format.specs.Kept.{keptRows, carried, cells, ownBytes}
+use Rattle.format.specs.Write.{dataLength}
+use Rattle.format.specs.Accepted.{Shares, Carries, Offsets}
+use Rattle.format.proofs.Laws.{length-table, kept-root}
+use Rattle.nesting.specs.Rows.{Ready}
+use Rattle.nesting.proofs.ByKind.{of-struct, of-union, of-others, of-bytes32, of-bytes64, is-bytes32, is-bytes64, kind-at, rows-at}
+use Rattle.nesting.proofs.Tree.{kept-shared, kept-carried}
+
+carried-none : (rs : List ℕ) (n : ℕ) → length rs ≡ 0 → 0 ≡ length (carried rs n)
+unfolding carried
+carried-none [] n e = refl
+carried-none (r ∷ rs) n e = absurd (omega arith)
+
+carried-every : (rs : List ℕ) (n : ℕ) → (length rs ≡ 0 → ⊥) → n ≡ length (carried rs n)
+unfolding carried
+carried-every [] n e = absurd (e refl)
+carried-every (r ∷ rs) n e = sym (length-table (λ k. k) n)
+
+pub counted-root : (b root : List ℕ) (node : ℕ) → node ≡ 0 → length root ≡ length (keptRows b root node)
+counted-root b root node e = rw (e, kept-root b root)
+
+module _ {b root table parents counts : List ℕ} {node : ℕ} (ready : Ready b root table parents counts node) (h : node < nodeCount b) (some : 0 < node) where
+  is-parent : getD parents node 0 ≡ parent b node
+  is-parent = ready .above .at node h
+
+  above-lt : getD parents node 0 < node
+  above-lt = rw is-parent (ready .sound .shape .above node some)
+
+  above-counted : getD counts (getD parents node 0) 0 ≡ length (keptRows b root (parent b node))
+  above-counted = ready .counted .at (getD parents node 0) above-lt ∙ ap (λ (k : ℕ). length (keptRows b root k)) is-parent
+
+  counted-shared : Shares (kind b (getD parents node 0)) → getD counts (getD parents node 0) 0 ≡ length (keptRows b root node)
+  counted-shared s = above-counted ∙ ap length (sym (kept-shared b root node some (rw is-parent at s)))
+
+  module _ (c : Carries (kind b (getD parents node 0))) where
+    is-carried : carried (keptRows b root (parent b node)) (rows b node) ≡ keptRows b root node
+    is-carried = sym (kept-carried b root node some (rw is-parent at c))
+
+    counted-none : getD counts (getD parents node 0) 0 ≡ 0 → 0 ≡ length (keptRows b root node)
+    counted-none e = carried-none (keptRows b root (parent b node)) (rows b node) (sym above-counted ∙ e) ∙ ap length is-carried
+
+    counted-every : (getD counts (getD parents node 0) 0 ≡ 0 → ⊥) → rows b node ≡ length (keptRows b root node)
+    counted-every e = carried-every (keptRows b root (parent b node)) (rows b node) (λ q. e (above-counted ∙ q)) ∙ ap length is-carried
+
+  -- by the parent's kind, as the array has it
+  pub above-few : getD parents node 0 < 64
+  above-few = omega (arith, above-lt, ready .sound .shape .few)
+
+  above-kind : getD table (10 * getD parents node 0) 0 ≡ kindNumber b (getD parents node 0)
+  above-kind = kind-at b (ready .tabled) (getD parents node 0) (omega (arith, above-lt))
+
+  pub under-struct : getD table (10 * getD parents node 0) 0 ≡ 10 → getD counts (getD parents node 0) 0 ≡ length (keptRows b root node)
+  under-struct e = counted-shared (of-struct b (getD parents node 0) (sym above-kind ∙ e))
+
+  pub under-union : getD table (10 * getD parents node 0) 0 ≡ 11 → getD counts (getD parents node 0) 0 ≡ length (keptRows b root node)
+  under-union e = counted-shared (of-union b (getD parents node 0) (sym above-kind ∙ e))
+
+  module _ (r : getD table (10 * getD parents node 0) 0 ≡ 9 → ⊥) (s : getD table (10 * getD parents node 0) 0 ≡ 10 → ⊥) (u : getD table (10 * getD parents node 0) 0 ≡ 11 → ⊥) where
+    carrier : Carries (kind b (getD parents node 0))
+    carrier =
+        of-others b (getD parents node 0) (rw is-parent (ready .sound .shape .inner node some h)) (λ e. r (above-kind ∙ e)) (λ e. s (above-kind ∙ e)) (λ e. u (above-kind ∙ e))
+
+    pub under-empty : getD counts (getD parents node 0) 0 ≡ 0 → 0 ≡ length (keptRows b root node)
+    under-empty e = counted-none carrier e
+
+    pub under-filled : (getD counts (getD parents node 0) 0 ≡ 0 → ⊥) → getD table (10 * node + 2) 0 ≡ length (keptRows b root node)
+    under-filled e = rows-at b (ready .tabled) node h ∙ counted-every carrier e
+
+-- data bytes: texts of w bytes, or none
+module _ (b : List ℕ) (i : ℕ) (rs : List ℕ) where
+  data32 : kind b i ≡ Bytes32 → dataLength (cells (kind b i) b i rs) ≡ length (join (map (ownBytes 4 b i) rs))
+  unfolding cells dataLength
+  data32 e = rw e
+
+  data64 : kind b i ≡ Bytes64 → dataLength (cells (kind b i) b i rs) ≡ length (join (map (ownBytes 8 b i) rs))
+  unfolding cells dataLength
+  data64 e = rw e
+
+  no-data : (k : Kind) → (k ≡ Bytes32 → ⊥) → (k ≡ Bytes64 → ⊥) → dataLength (cells k b i rs) ≡ 0
+  unfolding cells dataLength
+  no-data Bits f g = refl
+  no-data Native f g = refl
+  no-data Fixed f g = refl
+  no-data Bytes32 f g = absurd (f refl)
+  no-data Bytes64 f g = absurd (g refl)
+  no-data Views f g = refl
+  no-data Lists32 f g = refl
+  no-data Lists64 f g = refl
+  no-data Runs f g = refl
+  no-data Struct f g = refl
+  no-data Union f g = refl
+  no-data Dictionary f g = refl
+  no-data Unknown f g = refl
+
+-- the same by the node's kind, as the array has it
+module _ {b root table parents counts : List ℕ} {node : ℕ} (ready : Ready b root table parents counts node) (h : node < nodeCount b) where
+  own-kind : getD table (10 * node) 0 ≡ kindNumber b node
+  own-kind = kind-at b (ready .tabled) node h
+
+  bytes-few : {w : ℕ} → Offsets w b node → (n : ℕ) → n ≤ secondLength b node → n ≤ length b
+  bytes-few o n l = omega (arith, o .dataLies, ready .sound .shape .table)
+
+  module _ (e : getD table (10 * node) 0 ≡ 4) where
+    is32 : kind b node ≡ Bytes32
+    is32 = of-bytes32 b node (sym own-kind ∙ e)
+
+    pub texts32 : Offsets 4 b node
+    texts32 = ready .sound .offsets32 node h is32
+
+    pub length32 : (rs : List ℕ) (n : ℕ) → (n ≡ length (join (map (ownBytes 4 b node) rs))) × (n ≤ secondLength b node)
+        → (n ≡ dataLength (cells (kind b node) b node rs)) × (n ≤ length b)
+    length32 rs n f = (f .0 ∙ sym (data32 b node rs is32), bytes-few texts32 n (f .1))
+
+  module _ (e : getD table (10 * node) 0 ≡ 5) where
+    is64 : kind b node ≡ Bytes64
+    is64 = of-bytes64 b node (sym own-kind ∙ e)
+
+    pub texts64 : Offsets 8 b node
+    texts64 = ready .sound .offsets64 node h is64
+
+    pub length64 : (rs : List ℕ) (n : ℕ) → (n ≡ length (join (map (ownBytes 8 b node) rs))) × (n ≤ secondLength b node)
+        → (n ≡ dataLength (cells (kind b node) b node rs)) × (n ≤ length b)
+    length64 rs n f = (f .0 ∙ sym (data64 b node rs is64), bytes-few texts64 n (f .1))
+
+  pub length-none : (getD table (10 * node) 0 ≡ 4 → ⊥) → (getD table (10 * node) 0 ≡ 5 → ⊥) → (rs : List ℕ)
+      → (0 ≡ dataLength (cells (kind b node) b node rs)) × (0 ≤ length b)
+  length-none f g rs =
+      (sym (no-data b node rs (kind b node) (λ q. f (own-kind ∙ is-bytes32 b node q)) (λ q. g (own-kind ∙ is-bytes64 b node q))), omega arith)

@@ -1,0 +1,60 @@
+-- `nesting::measure::count_all` meets its contract. The loop's invariant: the first i nodes are counted. Assumes nothing.
+use native.Mathlib.Omega.{arith}
+use mathlib.Core.Path.{_≡_, refl}
+use Prim.Native.Nat.{_≤_, _-_}
+use lib.ListN.{length, length-set}
+use Rattle.nesting.specs.Rows.{Counts, picksOf}
+use Rattle.pack.proofs.Stack.{holds-none, holds-more}
+use Rattle.nesting.proofs.Arrays.{holds-less}
+use Rattle.nesting.proofs.NodeEnd.{ready-with}
+use Rattle.nesting.proofs.measure.count_all.Statement.{statement}
+use Rattle.nesting.proofs.measure.count_all.Tie as tie
+
+abbrev Inv-loop : tie.InvT-loop
+Inv-loop mask bits journal table parents counts₀ n i₀ counts i = (i ≤ n) × (length counts ≡ 64) × Counts journal (picksOf mask bits) i counts
+
+abbrev μ-loop : tie.MeasureT-loop
+μ-loop mask bits journal table parents counts₀ n i₀ counts i = n - i
+
+node-count-requires : tie.Need-node-count-requires Inv-loop μ-loop
+node-count-requires c κs = c .before .before .pre .1 .sound .shape
+
+loop-holds : tie.Need-loop-holds Inv-loop μ-loop
+loop-holds c = (omega arith, refl, holds-none _ _)
+
+count-kept-requires : tie.Need-count-kept-requires Inv-loop μ-loop
+count-kept-requires c κs = (c .before .before .before .before .before .before .pre .0, (ready-with (c .before .before .before .before .before .before .pre .1) (c .before .before .loop .inv .2), omega arith))
+
+mul-counts : tie.Need-mul-counts Inv-loop μ-loop
+mul-counts c = omega arith
+
+array-write-counts : tie.Need-array-write-counts Inv-loop μ-loop
+array-write-counts c = omega (arith, c .before .before .before .before .before .before .before .pre .1 .sound .shape .few)
+
+add-i : tie.Need-add-i Inv-loop μ-loop
+add-i c = omega arith
+
+loop-less : tie.Need-loop-less Inv-loop μ-loop
+loop-less c = omega arith
+
+loop-again : tie.Need-loop-again Inv-loop μ-loop
+loop-again c = (omega arith, simp length-set (c .before .before .before .loop .inv .1), holds-more (c .before .before .before .loop .inv .2) (omega (arith, c .before .before .before .before .before .before .before .pre .1 .sound .shape .few)) (c .count-kept .ensures))
+
+returns : tie.Need-returns Inv-loop μ-loop
+returns c = holds-less (c .before .loop .inv .2) (omega arith)
+
+pub count-all-spec : {M : Type 1} → statement M
+count-all-spec =
+    tie.close
+    (tie.spec
+    Inv-loop
+    μ-loop
+    node-count-requires
+    loop-holds
+    count-kept-requires
+    mul-counts
+    array-write-counts
+    add-i
+    loop-less
+    loop-again
+    returns)

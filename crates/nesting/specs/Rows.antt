@@ -1,0 +1,73 @@
+-- The kept rows of a node as a test, the question whether some of them lie in a range, and arrays filled node by node. Assumes nothing.
+use Prim.Native.Nat.{ℕ, suc, _+_, _*_, _<_}
+use mathlib.Core.Bool.{Bool, true, false, _||_}
+use mathlib.Core.List.{List, [], _∷_}
+use mathlib.Core.Path.{_≡_}
+use lib.ListN.{length}
+use Rattle.format.specs.Bytes.{le, chosen, within}
+use Rattle.format.specs.declared.Kind.the-variants.{Runs}
+use Rattle.format.specs.Node.{tableStart, nodeCount, kind, rows}
+use Rattle.format.specs.Accepted.{Sound}
+use Rattle.slots.specs.declared.Bits.{Bits}
+use Rattle.slots.specs.Source.{slotOf, Lies}
+use Rattle.pack.specs.Tree.{Holds, Parents}
+use Rattle.format.specs.Mask.{picks, maskLength}
+use Rattle.format.specs.Kept.{keptRows}
+
+-- some number of the list lies in [lo, hi)
+unfoldable pub between : List ℕ → ℕ → ℕ → Bool
+between [] lo hi = false
+between (x ∷ xs) lo hi = within 0 lo hi x || between xs lo hi
+
+-- the slots that a bit source picks, rising
+abbrev pub picksOf : List ℕ → Bits → List ℕ
+picksOf s b = chosen (slotOf s b) (b .len)
+
+-- the list has exactly those numbers below n that it tells, rising
+pub record Sifted (xs : List ℕ) (n : ℕ) : Type 0 where
+  pub is : xs ≡ chosen (λ r. between xs r (suc r)) n
+
+-- row r of node i is kept, where the root keeps the rows `root`
+unfoldable pub keeps : List ℕ → List ℕ → ℕ → ℕ → Bool
+keeps b root i r = between (keptRows b root i) r (suc r)
+
+-- the fields of all nodes, ten to a node, as the table has them
+abbrev pub Table : List ℕ → List ℕ → Type 0
+Table b = Holds (λ j. le 4 b (tableStart b + 4 * j)) (10 * nodeCount b)
+
+-- of the first n nodes, how many rows each keeps
+abbrev pub Counts : List ℕ → List ℕ → ℕ → List ℕ → Type 0
+Counts b root = Holds (λ i. length (keptRows b root i))
+
+-- what is at hand while node n is measured: an accepted journal, rising row numbers of its root, its node table and parents as arrays, and
+-- how many rows the nodes before n keep
+pub record Ready (b root table parents counts : List ℕ) (n : ℕ) : Type 0 where
+  pub sound : Sound b
+  pub rooted : Sifted root (rows b 0)
+  pub tabled : Table b table
+  pub above : Parents b parents
+  pub counted : Counts b root n counts
+
+-- node i is a runs node of an accepted journal whose node table is at hand
+pub record AtRuns (b table : List ℕ) (i : ℕ) : Type 0 where
+  pub sound : Sound b
+  pub tabled : Table b table
+  pub inside : i < nodeCount b
+  pub isRuns : kind b i ≡ Runs
+
+-- a bit source whose picks are the mask's
+pub record BitsOf (m : List ℕ) (b : Bits) : Type 0 where
+  pub lies : Lies m b
+  pub whole : b .len ≡ maskLength m
+  pub same : picksOf m b ≡ picks m
+
+-- the nodes of an accepted journal: its table and parents as arrays
+pub record Nodes (b table parents : List ℕ) : Type 0 where
+  pub sound : Sound b
+  pub tabled : Table b table
+  pub above : Parents b parents
+
+-- where the answer is true, the node keeps the root's rows, and has as many rows
+pub record AtRoot (b : List ℕ) (node : ℕ) (t : Bool) : Type 0 where
+  pub same : t ≡ true → (root : List ℕ) → keptRows b root node ≡ root
+  pub long : t ≡ true → rows b node ≡ rows b 0

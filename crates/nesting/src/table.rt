@@ -1,0 +1,100 @@
+// An accepted journal's node table as numbers, each field read once; and the run ends of a runs node.
+ghost use mathlib.Core.Path.{_≡_};
+ghost use mathlib.Core.Bool.{true};
+ghost use mathlib.Core.List.{_∷_, []};
+ghost use Prim.Native.Nat.{_+_, _-_, _*_, _≤_, _<_, min, suc};
+ghost use lib.ListN.{length};
+ghost use Rattle.format.specs.Bytes.{le};
+ghost use Rattle.format.specs.Node.{tableStart, nodeCount, rows, runEnd, runStart};
+ghost use Rattle.format.specs.Verdict.{oneOf};
+ghost use Rattle.format.specs.Accepted.{Shape};
+ghost use Rattle.nesting.specs.Rows.{Table, AtRuns};
+
+// Kinds by number: the children of runs keep its runs, those of struct and union its rows; all others are carried with all rows.
+pub const RUNS: u32 = 9;
+
+pub const STRUCT: u32 = 10;
+
+pub const UNION: u32 = 11;
+
+// What a leaves over b; 0 if b is more.
+pub fn less(a: usize, b: usize) -> usize
+    ensures { λ r. ⌜ r ≡ a - b ⌝ }
+{
+    if a < b {
+        return 0;
+    }
+    a - b
+}
+
+// The smaller of two numbers.
+pub fn least(a: usize, b: usize) -> usize
+    ensures { λ r. ⌜ r ≡ min a b ⌝ }
+{
+    if a < b {
+        return a;
+    }
+    b
+}
+
+// How many nodes there are.
+pub fn node_count(journal: &[u8]) -> usize
+    requires { ⌜ Shape (now journal) ⌝ }
+    ensures { λ r. ⌜ r ≡ nodeCount (now (journal .entry)) ⌝ }
+{
+    words::get32(journal, journal.len() - 12) as usize
+}
+
+// The fields of all nodes: field k of node i at 10 i + k.
+pub fn table_of(journal: &[u8]) -> [u32; 640]
+    requires { ⌜ Shape (now journal) ⌝ }
+    ensures { λ r. ⌜ Table (now (journal .entry)) r ⌝ }
+{
+    let mut table = [0u32; 640];
+    let start = words::get32(journal, journal.len() - 16) as usize;
+    let n = 10 * node_count(journal);
+    let mut j: usize = 0;
+    while j < n {
+        table[j] = words::get32(journal, start + 4 * j);
+        j += 1;
+    }
+    table
+}
+
+// The number of 2, 4 or 8 bytes at a place.
+pub fn number(s: &[u8], at: usize, w: usize) -> usize
+    requires { ⌜ oneOf (2 ∷ 4 ∷ 8 ∷ []) w ≡ true ⌝ }
+    requires { ⌜ at + w ≤ length (now s) ⌝ }
+    ensures { λ r. ⌜ r ≡ le w (now (s .entry)) at ⌝ }
+{
+    if w == 2 {
+        return words::get16(s, at) as usize;
+    }
+    if w == 4 {
+        return words::get32(s, at) as usize;
+    }
+    words::get64(s, at) as usize
+}
+
+// Where run j of runs node i ends.
+pub fn run_end(journal: &[u8], table: &[u32; 640], i: usize, j: usize) -> usize
+    requires { ⌜ AtRuns (now journal) (now table) i ⌝ }
+    requires { ⌜ j < rows (now journal) (suc i) ⌝ }
+    ensures { λ r. ⌜ r ≡ runEnd (now (journal .entry)) i j ⌝ }
+{
+    let w = table[10 * i + 1] as usize;
+    let at = table[10 * i + 6] as usize;
+    number(journal, at + w * j, w)
+}
+
+// Where it starts: at the end before it.
+pub fn run_start(journal: &[u8], table: &[u32; 640], i: usize, j: usize) -> usize
+    requires { ⌜ AtRuns (now journal) (now table) i ⌝ }
+    requires { ⌜ j < rows (now journal) (suc i) ⌝ }
+    ensures { λ r. ⌜ r ≡ runStart (now (journal .entry)) i j ⌝ }
+{
+    if j == 0 {
+        return 0;
+    }
+    run_end(journal, table, i, j - 1)
+}
