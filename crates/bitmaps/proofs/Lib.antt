@@ -1,0 +1,3 @@
+pub mod PushLaws
+pub mod WordWalk
+pub mod BlockWalk

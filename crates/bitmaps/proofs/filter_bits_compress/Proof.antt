@@ -1,0 +1,107 @@
+-- `bitmaps::filter_bits_compress` meets its contract. The invariant: the bits of the words passed are packed. Assumes nothing.
+use Prim.Native.Nat.{_+_, _-_, _*_, _≤_}
+use mathlib.Core.Logic.{⊎-elim}
+use mathlib.Core.Path.{_≡_, refl, ap, _∙_}
+use mathlib.Core.List.{_++_}
+use native.Mathlib.Omega.{arith}
+use borrow.Author.Needs.{needs}
+use lib.ListN.{length}
+use Rattle.format.specs.Bytes.{packed}
+use Rattle.format.specs.Slots.{picksFrom}
+use Rattle.format.specs.Words.{spare}
+use Rattle.format.proofs.Put.{same-size}
+use Rattle.bits.specs.Pack.{pushed}
+use Rattle.slots.specs.Source.{wordAt}
+use Rattle.bitmaps.specs.Push.{Packs}
+use Rattle.bitmaps.proofs.PushLaws.{packs-none, packs-more, push-room, packs-done, flush-room}
+use Rattle.bitmaps.proofs.WordWalk.{taken, fresh, taken-more, fresh-le, word-pushed, word-room, taken-all}
+use Rattle.bitmaps.proofs.filter_bits_compress.Statement.{statement}
+use Rattle.bitmaps.proofs.filter_bits_compress.Tie as tie
+
+abbrev Inv-loop : tie.InvT-loop
+Inv-loop out₀ at values from s mask to₀ w₀ len out to w = (64 * w ≤ len + 63) × Packs (taken values from s mask (64 * w)) out₀ at out to
+
+abbrev μ-loop : tie.MeasureT-loop
+μ-loop out₀ at values from s mask to₀ w₀ len out to w = len + 64 - 64 * w
+
+loop-holds : tie.Need-loop-holds Inv-loop μ-loop
+unfolding taken picksFrom
+loop-holds c = (omega arith, packs-none)
+
+-- by either way it is the mask's word
+is-word : (c : tie.Joined1 Inv-loop μ-loop) →
+    let a = c .before .before .before .before .before .before .args in
+    c .if1 .x ≡ wordAt (a .s .now) (a .mask) (c .before .before .loop .w)
+is-word c = ⊎-elim (λ v. v .2 ∙ v .1 .ensures) (λ v. v .2 ∙ v .1 .ensures) (c .if1 .came)
+
+-- what this turn pushes
+adds : (c : tie.After-bits64 Inv-loop μ-loop) →
+    let a = c .before .before .before .before .before .before .before .args in
+    let l = c .before .before .before .loop in
+    pushed (l .to .packer) (c .bits64 .result) (c .before .if1 .x) ≡ spare (taken (a .values .now) (a .from) (a .s .now) (a .mask) (64 * l .w)) ++ fresh (a .values .now) (a .from) (a .s .now) (a .mask) (l .w)
+adds c =
+    let a = c .before .before .before .before .before .before .before .args in
+    let l = c .before .before .before .loop in
+    rw (← l .inv .1 .waits) (word-pushed (a .values .now) (a .from) (a .s .now) (a .mask) (l .to .packer) (l .w) _ _ (c .bits64 .ensures) (is-word (c .before)))
+
+push-requires : tie.Need-push-requires Inv-loop μ-loop
+unfolding taken
+push-requires c κs =
+    let a = c .before .before .before .before .before .before .before .before .args in
+    let pre = c .before .before .before .before .before .before .before .before .pre in
+    let l = c .before .before .before .before .loop in (
+      l .inv .1 .packed,
+      push-room (l .inv .1) _ (fresh (a .values .now) (a .from) (a .s .now) (a .mask) (l .w)) (adds (c .before)) (fresh-le (a .values .now) (a .from) (a .s .now) (a .mask) (l .w))
+          (word-room (a .values .now) (a .from) (a .s .now) (a .mask) (a .at) (l .w) _ (pre .1 .1)),
+    )
+
+loop-again : tie.Need-loop-again Inv-loop μ-loop
+loop-again c =
+    let a = c .before .before .before .before .before .before .before .before .before .before .before .args in
+    let l = c .before .before .before .before .before .before .before .loop in
+    let m = fresh (a .values .now) (a .from) (a .s .now) (a .mask) (l .w) in (
+      omega arith,
+      rw (taken-more (a .values .now) (a .from) (a .s .now) (a .mask) (l .w) (l .w + 1) refl)
+          (packs-more (l .inv .1) m (adds (c .before .before .before .before)) (fresh-le (a .values .now) (a .from) (a .s .now) (a .mask) (l .w)) (c .before .before .push .ensures)),
+    )
+
+-- the last word is passed: all bits are packed
+packs-all : (c : tie.After-loop Inv-loop μ-loop) →
+    let a = c .before .before .before .before .before .args in
+    Packs (taken (a .values .now) (a .from) (a .s .now) (a .mask) (a .mask .len)) (a .out .now) (a .at) (c .before .loop .out) (c .before .loop .to)
+packs-all c =
+    let a = c .before .before .before .before .before .args in
+    rw (← taken-all (a .values .now) (a .from) (a .s .now) (a .mask) (64 * c .before .loop .w) (omega arith)) (c .before .loop .inv .1)
+
+flush-requires : tie.Need-flush-requires Inv-loop μ-loop
+unfolding taken
+flush-requires c κs =
+    let p = packs-all (c .before) in
+    (p .packed .room, flush-room p (c .before .before .before .before .before .before .pre .1 .1))
+
+returns : tie.Need-returns Inv-loop μ-loop
+unfolding taken
+returns c = packs-done (packs-all (c .before .before .before .before)) (c .before .before .flush .ensures)
+
+pub filter-bits-compress-spec : {M : Type 1} → statement M
+filter-bits-compress-spec =
+    tie.close
+    (tie.spec
+    Inv-loop
+    μ-loop
+    loop-holds
+    (λ c. omega arith)
+    (λ c. omega arith)
+    (λ c. omega arith)
+    (λ c κs. search needs)
+    (λ c κs. search needs)
+    (λ c. omega arith)
+    (λ c. omega arith)
+    (λ c κs. search needs)
+    (λ c. omega arith)
+    push-requires
+    (λ c. omega arith)
+    loop-again
+    flush-requires
+    (λ c. same-size (returns c))
+    returns)

@@ -1,0 +1,264 @@
+// Bitmaps of picked rows: filter_bits, by compress or by blocks, and filter_nulls.
+ghost use mathlib.Core.Path.{_≡_};
+ghost use Prim.Native.Nat.{_+_, _-_, _*_, _/_, _^_, _≤_, _<_, min};
+ghost use lib.ListN.{length};
+ghost use mathlib.Core.List.{map};
+ghost use Rattle.format.specs.Bytes.{toLe, bytesAt, bytesFor, packed};
+ghost use Rattle.format.specs.Slots.{picksFrom, countUp};
+ghost use Rattle.format.specs.Rows.{setRows};
+ghost use Rattle.format.specs.Put.{Wrote};
+ghost use Rattle.slots.specs.Source.{Lies, slotOf};
+ghost use Rattle.predicate.specs.Selection.{Holds, Readable, Sourced, keptBy};
+ghost use Rattle.format.specs.Mask.{byRoute};
+ghost use Rattle.format.specs.Write.{numbers};
+ghost use Rattle.bits.specs.Pack.{Packed, pushed, packing};
+ghost use Rattle.bitmaps.specs.Push.{handedWords, Pushes, Adds, bitFrom, storedRows};
+use bits::Packer;
+use bits::Packing;
+use predicate::Block;
+use predicate::Cursor;
+use predicate::Held;
+use predicate::Selection;
+use slots::Bits;
+
+// A bitmap that is being written: the next place in the output, and the bits that wait for a full word.
+pub struct Bitmap {
+    pub here: usize,
+    pub packer: Packer,
+}
+
+// Adds the bits of value at the set bits of mask; a full word is written.
+fn push(out: &mut [u8], to: Bitmap, value: u64, mask: u64) -> Bitmap
+    requires { ⌜ Packed (to .packer) ⌝ }
+    requires { ⌜ to .here + length (numbers 8 (handedWords (packing (pushed (to .packer) value mask)))) ≤ length (now out) ⌝ }
+    ensures { λ r. ⌜ Pushes (pushed (to .packer) value mask) (now (out .entry)) to (now (out .exit)) r ⌝ }
+{
+    let here = to.here;
+    let packer = to.packer;
+    match bits::packing_step(packer, value, mask) {
+        Packing::Partial(left) => Bitmap { here, packer: left },
+        Packing::Full(word, left) => {
+            let next = words::put64(out, here, word);
+            Bitmap {
+                here: next,
+                packer: left,
+            }
+        }
+    }
+}
+
+// The smaller of a number and 64.
+fn up_to_64(n: usize) -> u32
+    ensures { λ r. ⌜ r ≡ min n 64 ⌝ }
+{
+    if n < 64 { n as u32 } else { 64 }
+}
+
+// The bits of rows a to e, up to 64 at a time: n bits are a push under a mask of n ones.
+fn push_run(out: &mut [u8], start: Bitmap, values: &[u8], from: usize, a: usize, e: usize) -> Bitmap
+    requires { ⌜ Packed (start .packer) ⌝ }
+    requires { ⌜ (a ≤ e) × (from + e < 2 ^ 62) ⌝ }
+    requires { ⌜ start .here + 8 * ((start .packer .filled + (e - a)) / 64) ≤ length (now out) ⌝ }
+    ensures { λ r. ⌜ Adds (map (bitFrom (now (values .entry)) from) (countUp (e - a) a)) (now (out .entry)) start (now (out .exit)) r ⌝ }
+{
+    let mut to = start;
+    let mut i = a;
+    while i < e {
+        let n = up_to_64(e - i);
+        let v = slots::bits64(values, from + i);
+        let ones = bits::low_ones(n);
+        to = push(out, to, v, ones);
+        i += n as usize;
+    }
+    to
+}
+
+// The bits of the rows base + k for the set bits k of a word.
+fn push_word(
+    out: &mut [u8],
+    to: Bitmap,
+    values: &[u8],
+    from: usize,
+    base: usize,
+    word: u64,
+) -> Bitmap
+    requires { ⌜ Packed (to .packer) ⌝ }
+    requires { ⌜ from + base < 2 ^ 62 ⌝ }
+    requires { ⌜ to .here + 8 * ((to .packer .filled + length (setRows base word)) / 64) ≤ length (now out) ⌝ }
+    ensures { λ r. ⌜ Adds (map (bitFrom (now (values .entry)) from) (setRows base word)) (now (out .entry)) to (now (out .exit)) r ⌝ }
+{
+    let v = slots::bits64(values, from + base);
+    push(out, to, v, word)
+}
+
+// The bits of the rows that entries i to j of the list name.
+fn push_rows(
+    out: &mut [u8],
+    start: Bitmap,
+    values: &[u8],
+    from: usize,
+    list: &[u32],
+    i: usize,
+    j: usize,
+) -> Bitmap
+    requires { ⌜ Packed (start .packer) ⌝ }
+    requires { ⌜ (i ≤ j) × (j ≤ length (now list)) × (from < 2 ^ 61) ⌝ }
+    requires { ⌜ start .here + 8 * ((start .packer .filled + (j - i)) / 64) ≤ length (now out) ⌝ }
+    ensures { λ r. ⌜ Adds (map (bitFrom (now (values .entry)) from) (bytesAt (now (list .entry)) i (j - i))) (now (out .entry)) start (now (out .exit)) r ⌝ }
+{
+    let mut to = start;
+    let mut k = i;
+    while k < j {
+        let row = list[k] as usize;
+        let v = slots::bits64(values, from + row);
+        to = push(out, to, v, 1);
+        k += 1;
+    }
+    to
+}
+
+// The bits that wait at the end, as bytes: spare bits are 0.
+fn flush(out: &mut [u8], to: Bitmap) -> usize
+    requires { ⌜ (to .packer .filled < 64) × (to .here + bytesFor (to .packer .filled) ≤ length (now out)) ⌝ }
+    ensures { λ r. ⌜ Wrote (now (out .entry)) (to .here) (toLe (bytesFor (to .packer .filled)) (to .packer .current)) (now (out .exit)) r ⌝ }
+{
+    let packer = to.packer;
+    let width = (packer.filled as usize + 7) / 8;
+    append::fields::put_number(out, to.here, packer.current, width)
+}
+
+// The bits of the picked rows, row 0 at bit `from` of the values: word by word, the mask's word compresses the values'.
+pub fn filter_bits_compress(
+    out: &mut [u8],
+    at: usize,
+    values: &[u8],
+    from: usize,
+    s: &[u8],
+    mask: Bits,
+) -> usize
+    requires { ⌜ Lies (now s) mask ⌝ }
+    requires { ⌜ from + mask .len < 2 ^ 62 ⌝ }
+    requires { ⌜ at + length (packed (map (bitFrom (now values) from) (picksFrom (slotOf (now s) mask) (mask .len) 0))) ≤ length (now out) ⌝ }
+    ensures { λ r. ⌜ Wrote (now (out .entry)) at (packed (map (bitFrom (now (values .entry)) from) (picksFrom (slotOf (now (s .entry)) mask) (mask .len) 0))) (now (out .exit)) r ⌝ }
+{
+    let mut to = Bitmap {
+        here: at,
+        packer: Packer {
+            current: 0,
+            filled: 0,
+        },
+    };
+    let mut w: usize = 0;
+    let len = mask.len;
+    while 64 * w < len {
+        let x = if 64 * w + 128 <= len {
+            slots::word_in(s, mask, w)
+        } else {
+            slots::word(s, mask, w)
+        };
+        let v = slots::bits64(values, from + 64 * w);
+        w += 1;
+        to = push(out, to, v, x);
+    }
+    flush(out, to)
+}
+
+// The same by the selection's blocks: runs and row numbers, where the mask picks nearly all or nearly no rows.
+fn filter_bits_blocks(
+    out: &mut [u8],
+    at: usize,
+    values: &[u8],
+    from: usize,
+    sel: Selection,
+    s: &[u8],
+    mask: Bits,
+    list: &[u32],
+) -> usize
+    requires { ⌜ Readable sel (now s) mask ⌝ }
+    requires { ⌜ Holds sel (keptBy sel (now s) mask) (mask .len) (now list) ⌝ }
+    requires { ⌜ from + mask .len < 2 ^ 61 ⌝ }
+    requires { ⌜ at + length (packed (map (bitFrom (now values) from) (picksFrom (keptBy sel (now s) mask) (mask .len) 0))) ≤ length (now out) ⌝ }
+    ensures { λ r. ⌜ Wrote (now (out .entry)) at (packed (map (bitFrom (now (values .entry)) from) (picksFrom (keptBy sel (now (s .entry)) mask) (mask .len) 0))) (now (out .exit)) r ⌝ }
+{
+    let mut to = Bitmap {
+        here: at,
+        packer: Packer {
+            current: 0,
+            filled: 0,
+        },
+    };
+    let mut cur = Cursor { place: 0, index: 0 };
+    loop {
+        match predicate::next_block(sel, s, mask, list, cur) {
+            Block::Run(a, e, next) => {
+                to = push_run(out, to, values, from, a, e);
+                cur = next;
+            }
+            Block::Word(base, x, next) => {
+                to = push_word(out, to, values, from, base, x);
+                cur = next;
+            }
+            Block::Listed(i, j, next) => {
+                to = push_rows(out, to, values, from, list, i, j);
+                cur = next;
+            }
+            Block::End => break,
+        }
+    }
+    flush(out, to)
+}
+
+// Whether a bitmap column goes by the selection's runs or row numbers, and not by compress: nearly all rows are picked, or nearly none and the row
+// numbers are stored.
+pub fn by_route(length: usize, count: usize, stored: bool) -> bool
+    ensures { λ r. ⌜ r ≡ byRoute length count stored ⌝ }
+{
+    let few = length / 64;
+    (length - few <= count) | ((count <= few) & stored)
+}
+
+// Whether row numbers are stored.
+fn stored_rows(sel: Selection) -> bool
+    ensures { λ r. ⌜ r ≡ storedRows sel ⌝ }
+{
+    match sel {
+        Selection::Nothing => return false,
+        Selection::Everything(_) => return false,
+        Selection::Runs(_) => return false,
+        Selection::Rows(h) => match h {
+            Held::Stored(_) => return true,
+            Held::Lazy => return false,
+        },
+    }
+}
+
+// The bits of the kept rows, row 0 at bit `from` of the values, where `count` rows are kept: by compress, or by the selection's blocks.
+pub fn filter_bits(
+    out: &mut [u8],
+    at: usize,
+    values: &[u8],
+    from: usize,
+    sel: Selection,
+    s: &[u8],
+    mask: Bits,
+    list: &[u32],
+    count: usize,
+) -> usize
+    requires { ⌜ Sourced sel (now s) mask ⌝ }
+    requires { ⌜ Holds sel (keptBy sel (now s) mask) (mask .len) (now list) ⌝ }
+    requires { ⌜ from + mask .len < 2 ^ 61 ⌝ }
+    requires { ⌜ at + length (packed (map (bitFrom (now values) from) (picksFrom (keptBy sel (now s) mask) (mask .len) 0))) ≤ length (now out) ⌝ }
+    ensures { λ r. ⌜ Wrote (now (out .entry)) at (packed (map (bitFrom (now (values .entry)) from) (picksFrom (keptBy sel (now (s .entry)) mask) (mask .len) 0))) (now (out .exit)) r ⌝ }
+{
+    if by_route(mask.len, count, stored_rows(sel)) {
+        return filter_bits_blocks(out, at, values, from, sel, s, mask, list);
+    }
+    match sel {
+        Selection::Nothing => return at,
+        Selection::Everything(_) => {
+            return filter_bits_blocks(out, at, values, from, sel, s, mask, list);
+        }
+        Selection::Runs(_) => return filter_bits_compress(out, at, values, from, s, mask),
+        Selection::Rows(_) => return filter_bits_compress(out, at, values, from, s, mask),
+    }
+}

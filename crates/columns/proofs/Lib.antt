@@ -1,0 +1,5 @@
+-- The laws of a column that is written block by block.
+pub mod Walk
+pub mod EntryWalk
+pub mod TextWalk
+pub mod Buffers

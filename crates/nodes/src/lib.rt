@@ -1,0 +1,539 @@
+// One node of an extract: its bitmap, first and second buffer, each behind the body so far, padded to a multiple of 8.
+ghost use mathlib.Core.Path.{_≡_};
+ghost use mathlib.Core.List.{map};
+ghost use Prim.Native.Nat.{_+_, _*_, _^_, _≤_, _<_};
+ghost use lib.ListN.{length};
+ghost use Rattle.format.specs.Bytes.{packed};
+ghost use Rattle.format.specs.Kept.{cells};
+ghost use Rattle.format.specs.Node.{valid, noBitmap, rows, kind, param, child};
+ghost use Rattle.format.specs.Write.{anyNull, bitmap, holds, first, second, numbers, offsets};
+ghost use Rattle.append.specs.Cells.{entriesOf, offset, sizesOf, textsOf, totalOf, Entries, Offsets, Texts};
+ghost use Rattle.bitmaps.specs.Push.{bitFrom};
+ghost use Rattle.runs.specs.Groups.{EndsLie, sizeAt, endBytes};
+ghost use Rattle.predicate.specs.Selection.{Holds, Readable, Sourced, keptBy};
+ghost use Rattle.nodes.specs.Body.{appended};
+ghost use Rattle.nodes.specs.Place.{rowsBy, Picked, Puts, Copies, Sizes, Kinded};
+use format::Kind;
+use pack::Node;
+use predicate::Selection;
+use slots::Bits;
+
+// Validity at this place: no bitmap.
+const NO_BITMAP: usize = 0xFFFF_FFFF;
+
+// Where a buffer starts, and where the body ends behind it.
+pub struct Placed {
+    pub start: usize,
+    pub next: usize,
+}
+
+// The bitmap of the kept rows, only if one of them is null.
+pub fn filter_nulls(
+    out: &mut [u8],
+    at: usize,
+    journal: &[u8],
+    i: usize,
+    node: Node,
+    null: bool,
+    sel: Selection,
+    s: &[u8],
+    mask: Bits,
+    list: &[u32],
+    count: usize,
+) -> Placed
+    requires { ⌜ Picked (now journal) i node sel (now s) mask (now list) ⌝ }
+    requires { ⌜ null ≡ anyNull (map (valid (now journal) i) (rowsBy sel (now s) mask)) ⌝ }
+    requires { ⌜ at + length (appended at (bitmap (map (valid (now journal) i) (rowsBy sel (now s) mask)))) ≤ length (now out) ⌝ }
+    ensures { λ r. ⌜ Puts noBitmap (bitmap (map (valid (now (journal .entry)) i) (rowsBy sel (now (s .entry)) mask))) (now (out .entry)) at (now (out .exit)) r ⌝ }
+{
+    if null {
+        let start = append::fields::pad(out, at);
+        let from = 8 * (node.validity_at as usize) + node.skip as usize;
+        let next = bitmaps::filter_bits(out, start, journal, from, sel, s, mask, list, count);
+        return Placed { start, next };
+    }
+    Placed {
+        start: NO_BITMAP,
+        next: at,
+    }
+}
+
+// The entries of the kept rows, width bytes each, row 0 at `place`.
+fn put_entries(
+    out: &mut [u8],
+    at: usize,
+    journal: &[u8],
+    place: usize,
+    width: usize,
+    sel: Selection,
+    s: &[u8],
+    mask: Bits,
+    list: &[u32],
+) -> Placed
+    requires { ⌜ Readable sel (now s) mask ⌝ }
+    requires { ⌜ Holds sel (keptBy sel (now s) mask) (mask .len) (now list) ⌝ }
+    requires { ⌜ Entries width (now journal) place (mask .len) ⌝ }
+    requires { ⌜ at + length (appended at (holds (entriesOf width (now journal) place (rowsBy sel (now s) mask)))) ≤ length (now out) ⌝ }
+    ensures { λ r. ⌜ Puts 0 (holds (entriesOf width (now (journal .entry)) place (rowsBy sel (now (s .entry)) mask))) (now (out .entry)) at (now (out .exit)) r ⌝ }
+{
+    let start = append::fields::pad(out, at);
+    let next = columns::native::filter_native(
+        out,
+        start,
+        journal,
+        place,
+        width,
+        sel,
+        s,
+        mask,
+        list,
+    );
+    Placed { start, next }
+}
+
+// The offsets of the kept rows rebuilt from 0, 4 bytes each, row 0's at `place`.
+fn put_offsets32(
+    out: &mut [u8],
+    at: usize,
+    journal: &[u8],
+    place: usize,
+    sel: Selection,
+    s: &[u8],
+    mask: Bits,
+    list: &[u32],
+) -> Placed
+    requires { ⌜ Readable sel (now s) mask ⌝ }
+    requires { ⌜ Holds sel (keptBy sel (now s) mask) (mask .len) (now list) ⌝ }
+    requires { ⌜ Offsets 4 (now journal) place (mask .len) ⌝ }
+    requires { ⌜ at + length (appended at (holds (numbers 4 (offsets (sizesOf (offset 4 (now journal) place) (rowsBy sel (now s) mask)))))) ≤ length (now out) ⌝ }
+    ensures { λ r. ⌜ Puts 0 (holds (numbers 4 (offsets (sizesOf (offset 4 (now (journal .entry)) place) (rowsBy sel (now (s .entry)) mask))))) (now (out .entry)) at (now (out .exit)) r ⌝ }
+{
+    let start = append::fields::pad(out, at);
+    let to = columns::texts::filter_offsets32(out, start, journal, place, sel, s, mask, list);
+    Placed {
+        start,
+        next: to.next,
+    }
+}
+
+// The own bytes of the kept rows, whose data starts at `data_at`.
+fn put_texts32(
+    out: &mut [u8],
+    at: usize,
+    journal: &[u8],
+    place: usize,
+    data_at: usize,
+    sel: Selection,
+    s: &[u8],
+    mask: Bits,
+    list: &[u32],
+) -> Placed
+    requires { ⌜ Readable sel (now s) mask ⌝ }
+    requires { ⌜ Holds sel (keptBy sel (now s) mask) (mask .len) (now list) ⌝ }
+    requires { ⌜ Texts 4 (now journal) place «data_at» (mask .len) ⌝ }
+    requires { ⌜ at + length (appended at (holds (textsOf (offset 4 (now journal) place) (now journal) «data_at» (rowsBy sel (now s) mask)))) ≤ length (now out) ⌝ }
+    ensures { λ r. ⌜ Puts 0 (holds (textsOf (offset 4 (now (journal .entry)) place) (now (journal .entry)) «data_at» (rowsBy sel (now (s .entry)) mask))) (now (out .entry)) at (now (out .exit)) r ⌝ }
+{
+    let start = append::fields::pad(out, at);
+    let next = columns::texts::filter_texts32(
+        out,
+        start,
+        journal,
+        place,
+        data_at,
+        sel,
+        s,
+        mask,
+        list,
+    );
+    Placed { start, next }
+}
+
+// The offsets of the kept rows rebuilt from 0, 8 bytes each, row 0's at `place`.
+fn put_offsets64(
+    out: &mut [u8],
+    at: usize,
+    journal: &[u8],
+    place: usize,
+    sel: Selection,
+    s: &[u8],
+    mask: Bits,
+    list: &[u32],
+) -> Placed
+    requires { ⌜ Readable sel (now s) mask ⌝ }
+    requires { ⌜ Holds sel (keptBy sel (now s) mask) (mask .len) (now list) ⌝ }
+    requires { ⌜ Offsets 8 (now journal) place (mask .len) ⌝ }
+    requires { ⌜ at + length (appended at (holds (numbers 8 (offsets (sizesOf (offset 8 (now journal) place) (rowsBy sel (now s) mask)))))) ≤ length (now out) ⌝ }
+    ensures { λ r. ⌜ Puts 0 (holds (numbers 8 (offsets (sizesOf (offset 8 (now (journal .entry)) place) (rowsBy sel (now (s .entry)) mask))))) (now (out .entry)) at (now (out .exit)) r ⌝ }
+{
+    let start = append::fields::pad(out, at);
+    let to = columns::texts::filter_offsets64(out, start, journal, place, sel, s, mask, list);
+    Placed {
+        start,
+        next: to.next,
+    }
+}
+
+// The own bytes of the kept rows, whose data starts at `data_at`.
+fn put_texts64(
+    out: &mut [u8],
+    at: usize,
+    journal: &[u8],
+    place: usize,
+    data_at: usize,
+    sel: Selection,
+    s: &[u8],
+    mask: Bits,
+    list: &[u32],
+) -> Placed
+    requires { ⌜ Readable sel (now s) mask ⌝ }
+    requires { ⌜ Holds sel (keptBy sel (now s) mask) (mask .len) (now list) ⌝ }
+    requires { ⌜ Texts 8 (now journal) place «data_at» (mask .len) ⌝ }
+    requires { ⌜ at + length (appended at (holds (textsOf (offset 8 (now journal) place) (now journal) «data_at» (rowsBy sel (now s) mask)))) ≤ length (now out) ⌝ }
+    ensures { λ r. ⌜ Puts 0 (holds (textsOf (offset 8 (now (journal .entry)) place) (now (journal .entry)) «data_at» (rowsBy sel (now (s .entry)) mask))) (now (out .entry)) at (now (out .exit)) r ⌝ }
+{
+    let start = append::fields::pad(out, at);
+    let next = columns::texts::filter_texts64(
+        out,
+        start,
+        journal,
+        place,
+        data_at,
+        sel,
+        s,
+        mask,
+        list,
+    );
+    Placed { start, next }
+}
+
+// The bits of the kept rows, row 0 at bit `from`.
+fn put_bits(
+    out: &mut [u8],
+    at: usize,
+    journal: &[u8],
+    from: usize,
+    sel: Selection,
+    s: &[u8],
+    mask: Bits,
+    list: &[u32],
+    count: usize,
+) -> Placed
+    requires { ⌜ Sourced sel (now s) mask ⌝ }
+    requires { ⌜ Holds sel (keptBy sel (now s) mask) (mask .len) (now list) ⌝ }
+    requires { ⌜ from + mask .len < 2 ^ 61 ⌝ }
+    requires { ⌜ at + length (appended at (holds (packed (map (bitFrom (now journal) from) (rowsBy sel (now s) mask))))) ≤ length (now out) ⌝ }
+    ensures { λ r. ⌜ Puts 0 (holds (packed (map (bitFrom (now (journal .entry)) from) (rowsBy sel (now (s .entry)) mask)))) (now (out .entry)) at (now (out .exit)) r ⌝ }
+{
+    let start = append::fields::pad(out, at);
+    let next = bitmaps::filter_bits(out, start, journal, from, sel, s, mask, list, count);
+    Placed { start, next }
+}
+
+// The run ends of the runs that keep a row, of n runs whose ends stand at `place`.
+fn put_run_ends(
+    out: &mut [u8],
+    at: usize,
+    journal: &[u8],
+    place: usize,
+    width: usize,
+    n: usize,
+    skip: usize,
+    sel: Selection,
+    s: &[u8],
+    mask: Bits,
+) -> Placed
+    requires { ⌜ EndsLie width (now journal) place n ⌝ }
+    requires { ⌜ Sourced sel (now s) mask ⌝ }
+    requires { ⌜ at + length (appended at (holds (endBytes width (sizeAt width (now journal) place skip (rowsBy sel (now s) mask)) n))) ≤ length (now out) ⌝ }
+    ensures { λ r. ⌜ Puts 0 (holds (endBytes width (sizeAt width (now (journal .entry)) place skip (rowsBy sel (now (s .entry)) mask)) n)) (now (out .entry)) at (now (out .exit)) r ⌝ }
+{
+    let start = append::fields::pad(out, at);
+    let next = runs::filter_run_ends(out, start, journal, place, width, n, skip, sel, s, mask);
+    Placed { start, next }
+}
+
+// Where row 0 of a node stands in a buffer of entries.
+fn row_zero(at: u32, width: usize, skip: u32) -> usize
+    requires { ⌜ width ≤ 1024 ⌝ }
+    ensures { λ r. ⌜ r ≡ at + width * skip ⌝ }
+{
+    at as usize + width * (skip as usize)
+}
+
+// The first buffer of a node of a kind that copies entries of `width` bytes.
+fn first_entries(
+    out: &mut [u8],
+    at: usize,
+    journal: &[u8],
+    i: usize,
+    node: Node,
+    width: usize,
+    sel: Selection,
+    s: &[u8],
+    mask: Bits,
+    list: &[u32],
+) -> Placed
+    requires { ⌜ Picked (now journal) i node sel (now s) mask (now list) ⌝ }
+    requires { ⌜ Copies (kind (now journal) i) (param (now journal) i) width ⌝ }
+    requires { ⌜ at + length (appended at (first (cells (kind (now journal) i) (now journal) i (rowsBy sel (now s) mask)))) ≤ length (now out) ⌝ }
+    ensures { λ r. ⌜ Puts 0 (first (cells (kind (now (journal .entry)) i) (now (journal .entry)) i (rowsBy sel (now (s .entry)) mask))) (now (out .entry)) at (now (out .exit)) r ⌝ }
+{
+    let place = row_zero(node.first_at, width, node.skip);
+    put_entries(out, at, journal, place, width, sel, s, mask, list)
+}
+
+// The first buffer of a node of bits.
+fn first_bits(
+    out: &mut [u8],
+    at: usize,
+    journal: &[u8],
+    i: usize,
+    node: Node,
+    count: usize,
+    sel: Selection,
+    s: &[u8],
+    mask: Bits,
+    list: &[u32],
+) -> Placed
+    requires { ⌜ Picked (now journal) i node sel (now s) mask (now list) ⌝ }
+    requires { ⌜ kind (now journal) i ≡ Kind.Bits ⌝ }
+    requires { ⌜ at + length (appended at (first (cells (kind (now journal) i) (now journal) i (rowsBy sel (now s) mask)))) ≤ length (now out) ⌝ }
+    ensures { λ r. ⌜ Puts 0 (first (cells (kind (now (journal .entry)) i) (now (journal .entry)) i (rowsBy sel (now (s .entry)) mask))) (now (out .entry)) at (now (out .exit)) r ⌝ }
+{
+    let from = 8 * (node.first_at as usize) + node.skip as usize;
+    put_bits(out, at, journal, from, sel, s, mask, list, count)
+}
+
+// The first buffer of a byte column with offsets of 4 bytes.
+fn first_offsets32(
+    out: &mut [u8],
+    at: usize,
+    journal: &[u8],
+    i: usize,
+    node: Node,
+    sel: Selection,
+    s: &[u8],
+    mask: Bits,
+    list: &[u32],
+) -> Placed
+    requires { ⌜ Picked (now journal) i node sel (now s) mask (now list) ⌝ }
+    requires { ⌜ kind (now journal) i ≡ Kind.Bytes32 ⌝ }
+    requires { ⌜ at + length (appended at (first (cells (kind (now journal) i) (now journal) i (rowsBy sel (now s) mask)))) ≤ length (now out) ⌝ }
+    ensures { λ r. ⌜ Puts 0 (first (cells (kind (now (journal .entry)) i) (now (journal .entry)) i (rowsBy sel (now (s .entry)) mask))) (now (out .entry)) at (now (out .exit)) r ⌝ }
+{
+    let place = row_zero(node.first_at, 4, node.skip);
+    put_offsets32(out, at, journal, place, sel, s, mask, list)
+}
+
+// Its second buffer: the data.
+fn second_texts32(
+    out: &mut [u8],
+    at: usize,
+    journal: &[u8],
+    i: usize,
+    node: Node,
+    sel: Selection,
+    s: &[u8],
+    mask: Bits,
+    list: &[u32],
+) -> Placed
+    requires { ⌜ Picked (now journal) i node sel (now s) mask (now list) ⌝ }
+    requires { ⌜ kind (now journal) i ≡ Kind.Bytes32 ⌝ }
+    requires { ⌜ at + length (appended at (second (cells (kind (now journal) i) (now journal) i (rowsBy sel (now s) mask)))) ≤ length (now out) ⌝ }
+    ensures { λ r. ⌜ Puts 0 (second (cells (kind (now (journal .entry)) i) (now (journal .entry)) i (rowsBy sel (now (s .entry)) mask))) (now (out .entry)) at (now (out .exit)) r ⌝ }
+{
+    let place = row_zero(node.first_at, 4, node.skip);
+    put_texts32(
+        out,
+        at,
+        journal,
+        place,
+        node.second_at as usize,
+        sel,
+        s,
+        mask,
+        list,
+    )
+}
+
+// The first buffer of a byte column with offsets of 8 bytes.
+fn first_offsets64(
+    out: &mut [u8],
+    at: usize,
+    journal: &[u8],
+    i: usize,
+    node: Node,
+    sel: Selection,
+    s: &[u8],
+    mask: Bits,
+    list: &[u32],
+) -> Placed
+    requires { ⌜ Picked (now journal) i node sel (now s) mask (now list) ⌝ }
+    requires { ⌜ kind (now journal) i ≡ Kind.Bytes64 ⌝ }
+    requires { ⌜ at + length (appended at (first (cells (kind (now journal) i) (now journal) i (rowsBy sel (now s) mask)))) ≤ length (now out) ⌝ }
+    ensures { λ r. ⌜ Puts 0 (first (cells (kind (now (journal .entry)) i) (now (journal .entry)) i (rowsBy sel (now (s .entry)) mask))) (now (out .entry)) at (now (out .exit)) r ⌝ }
+{
+    let place = row_zero(node.first_at, 8, node.skip);
+    put_offsets64(out, at, journal, place, sel, s, mask, list)
+}
+
+// Its second buffer: the data.
+fn second_texts64(
+    out: &mut [u8],
+    at: usize,
+    journal: &[u8],
+    i: usize,
+    node: Node,
+    sel: Selection,
+    s: &[u8],
+    mask: Bits,
+    list: &[u32],
+) -> Placed
+    requires { ⌜ Picked (now journal) i node sel (now s) mask (now list) ⌝ }
+    requires { ⌜ kind (now journal) i ≡ Kind.Bytes64 ⌝ }
+    requires { ⌜ at + length (appended at (second (cells (kind (now journal) i) (now journal) i (rowsBy sel (now s) mask)))) ≤ length (now out) ⌝ }
+    ensures { λ r. ⌜ Puts 0 (second (cells (kind (now (journal .entry)) i) (now (journal .entry)) i (rowsBy sel (now (s .entry)) mask))) (now (out .entry)) at (now (out .exit)) r ⌝ }
+{
+    let place = row_zero(node.first_at, 8, node.skip);
+    put_texts64(
+        out,
+        at,
+        journal,
+        place,
+        node.second_at as usize,
+        sel,
+        s,
+        mask,
+        list,
+    )
+}
+
+// The first buffer of a runs node, whose child has n rows.
+fn first_runs(
+    out: &mut [u8],
+    at: usize,
+    journal: &[u8],
+    i: usize,
+    node: Node,
+    n: usize,
+    sel: Selection,
+    s: &[u8],
+    mask: Bits,
+    list: &[u32],
+) -> Placed
+    requires { ⌜ Picked (now journal) i node sel (now s) mask (now list) ⌝ }
+    requires { ⌜ (kind (now journal) i ≡ Kind.Runs) × (n ≡ rows (now journal) (child i)) ⌝ }
+    requires { ⌜ at + length (appended at (first (cells (kind (now journal) i) (now journal) i (rowsBy sel (now s) mask)))) ≤ length (now out) ⌝ }
+    ensures { λ r. ⌜ Puts 0 (first (cells (kind (now (journal .entry)) i) (now (journal .entry)) i (rowsBy sel (now (s .entry)) mask))) (now (out .entry)) at (now (out .exit)) r ⌝ }
+{
+    put_run_ends(
+        out,
+        at,
+        journal,
+        node.first_at as usize,
+        node.param as usize,
+        n,
+        node.skip as usize,
+        sel,
+        s,
+        mask,
+    )
+}
+
+// The first buffer of a node of kind k; of a runs node, whose child has n rows, its run ends.
+pub fn filter_first(
+    out: &mut [u8],
+    at: usize,
+    journal: &[u8],
+    i: usize,
+    node: Node,
+    k: Kind,
+    n: usize,
+    sel: Selection,
+    s: &[u8],
+    mask: Bits,
+    list: &[u32],
+    count: usize,
+) -> Placed
+    requires { ⌜ Picked (now journal) i node sel (now s) mask (now list) ⌝ }
+    requires { ⌜ Kinded (now journal) i k n ⌝ }
+    requires { ⌜ at + length (appended at (first (cells (kind (now journal) i) (now journal) i (rowsBy sel (now s) mask)))) ≤ length (now out) ⌝ }
+    ensures { λ r. ⌜ Puts 0 (first (cells (kind (now (journal .entry)) i) (now (journal .entry)) i (rowsBy sel (now (s .entry)) mask))) (now (out .entry)) at (now (out .exit)) r ⌝ }
+{
+    let width = node.param as usize;
+    match k {
+        Kind::Bits => return first_bits(out, at, journal, i, node, count, sel, s, mask, list),
+        Kind::Native => return first_entries(out, at, journal, i, node, width, sel, s, mask, list),
+        Kind::Fixed => return first_entries(out, at, journal, i, node, width, sel, s, mask, list),
+        Kind::Bytes32 => return first_offsets32(out, at, journal, i, node, sel, s, mask, list),
+        Kind::Bytes64 => return first_offsets64(out, at, journal, i, node, sel, s, mask, list),
+        Kind::Views => return first_entries(out, at, journal, i, node, 16, sel, s, mask, list),
+        Kind::Lists32 => return first_entries(out, at, journal, i, node, 4, sel, s, mask, list),
+        Kind::Lists64 => return first_entries(out, at, journal, i, node, 8, sel, s, mask, list),
+        Kind::Runs => return first_runs(out, at, journal, i, node, n, sel, s, mask, list),
+        Kind::Struct => return Placed { start: 0, next: at },
+        Kind::Union => return first_entries(out, at, journal, i, node, 1, sel, s, mask, list),
+        Kind::Dictionary => {
+            return first_entries(out, at, journal, i, node, width, sel, s, mask, list);
+        }
+        Kind::Unknown => return Placed { start: 0, next: at },
+    }
+}
+
+// The second buffer of a node of list views with sizes of `width` bytes.
+fn second_sizes(
+    out: &mut [u8],
+    at: usize,
+    journal: &[u8],
+    i: usize,
+    node: Node,
+    width: usize,
+    sel: Selection,
+    s: &[u8],
+    mask: Bits,
+    list: &[u32],
+) -> Placed
+    requires { ⌜ Picked (now journal) i node sel (now s) mask (now list) ⌝ }
+    requires { ⌜ Sizes (kind (now journal) i) width ⌝ }
+    requires { ⌜ at + length (appended at (second (cells (kind (now journal) i) (now journal) i (rowsBy sel (now s) mask)))) ≤ length (now out) ⌝ }
+    ensures { λ r. ⌜ Puts 0 (second (cells (kind (now (journal .entry)) i) (now (journal .entry)) i (rowsBy sel (now (s .entry)) mask))) (now (out .entry)) at (now (out .exit)) r ⌝ }
+{
+    let place = row_zero(node.second_at, width, node.skip);
+    put_entries(out, at, journal, place, width, sel, s, mask, list)
+}
+
+// The second buffer of a node of kind k: the data of a byte column, the sizes of list views, and of the others none.
+pub fn filter_second(
+    out: &mut [u8],
+    at: usize,
+    journal: &[u8],
+    i: usize,
+    node: Node,
+    k: Kind,
+    sel: Selection,
+    s: &[u8],
+    mask: Bits,
+    list: &[u32],
+) -> Placed
+    requires { ⌜ Picked (now journal) i node sel (now s) mask (now list) ⌝ }
+    requires { ⌜ k ≡ kind (now journal) i ⌝ }
+    requires { ⌜ at + length (appended at (second (cells (kind (now journal) i) (now journal) i (rowsBy sel (now s) mask)))) ≤ length (now out) ⌝ }
+    ensures { λ r. ⌜ Puts 0 (second (cells (kind (now (journal .entry)) i) (now (journal .entry)) i (rowsBy sel (now (s .entry)) mask))) (now (out .entry)) at (now (out .exit)) r ⌝ }
+{
+    match k {
+        Kind::Bits => return Placed { start: 0, next: at },
+        Kind::Native => return Placed { start: 0, next: at },
+        Kind::Fixed => return Placed { start: 0, next: at },
+        Kind::Bytes32 => return second_texts32(out, at, journal, i, node, sel, s, mask, list),
+        Kind::Bytes64 => return second_texts64(out, at, journal, i, node, sel, s, mask, list),
+        Kind::Views => return Placed { start: 0, next: at },
+        Kind::Lists32 => return second_sizes(out, at, journal, i, node, 4, sel, s, mask, list),
+        Kind::Lists64 => return second_sizes(out, at, journal, i, node, 8, sel, s, mask, list),
+        Kind::Runs => return Placed { start: 0, next: at },
+        Kind::Struct => return Placed { start: 0, next: at },
+        Kind::Union => return Placed { start: 0, next: at },
+        Kind::Dictionary => return Placed { start: 0, next: at },
+        Kind::Unknown => return Placed { start: 0, next: at },
+    }
+}

@@ -1,0 +1,141 @@
+// The run ends of a runs node's kept rows (filter.rs: filter_run_end_array), and how many rows of a range a selection keeps.
+ghost use mathlib.Core.Bool.{true};
+ghost use mathlib.Core.List.{[], _∷_};
+ghost use mathlib.Core.Path.{_≡_};
+ghost use Prim.Native.Nat.{_+_, _-_, _≤_, min};
+ghost use lib.ListN.{length};
+ghost use Rattle.format.specs.Bytes.{bitIn, le};
+ghost use Rattle.format.specs.Put.{Wrote};
+ghost use Rattle.format.specs.Slots.{wordFrom, picksFrom};
+ghost use Rattle.format.specs.Verdict.{oneOf};
+ghost use Rattle.slots.specs.Source.{bothSet, slotOf, Lies};
+ghost use Rattle.predicate.specs.Selection.{keptBy, Sourced};
+ghost use Rattle.runs.specs.Groups.{EndsLie, sizeAt, endBytes};
+use predicate::Selection;
+use slots::Bits;
+
+// The 64 bits from bit k on, low bit first, zeros past the end: by one load where it stays in the slice.
+fn load64(s: &[u8], k: usize) -> u64
+    ensures { λ r. ⌜ r ≡ wordFrom (bitIn (now (s .entry))) 64 k ⌝ }
+{
+    if k / 8 + 9 <= s.len() {
+        return slots::bits64_in(s, k);
+    }
+    slots::bits64(s, k)
+}
+
+// The 64 slots from i on, low bit first; past the last slot, whatever bits stand there.
+fn slots64(s: &[u8], b: Bits, i: usize) -> u64
+    requires { ⌜ Lies (now s) b ⌝ }
+    requires { ⌜ i ≤ b .len ⌝ }
+    ensures { λ r. ⌜ r ≡ wordFrom (bothSet (now (s .entry)) b) 64 i ⌝ }
+{
+    let k = b.skip + i;
+    let x = load64(s, 8 * b.values_at + k);
+    if b.has_validity {
+        return x & load64(s, 8 * b.validity_at + k);
+    }
+    x
+}
+
+// The n slots from i on, low bit first, wherever they start.
+fn window(s: &[u8], b: Bits, i: usize, n: usize) -> u64
+    requires { ⌜ Lies (now s) b ⌝ }
+    requires { ⌜ (i + n ≤ b .len) × (n ≤ 64) ⌝ }
+    ensures { λ r. ⌜ r ≡ wordFrom (slotOf (now (s .entry)) b) n i ⌝ }
+{
+    let x = slots64(s, b, i);
+    if n < 64 { x % (1 << n) } else { x }
+}
+
+// How many slots of [lo, hi) are picked. Up to 64 slots are one word.
+pub fn count_in(s: &[u8], b: Bits, lo: usize, hi: usize) -> usize
+    requires { ⌜ Lies (now s) b ⌝ }
+    requires { ⌜ (lo ≤ hi) × (hi ≤ b .len) ⌝ }
+    ensures { λ r. ⌜ r ≡ length (picksFrom (slotOf (now (s .entry)) b) (hi - lo) lo) ⌝ }
+{
+    let mut n: usize = 0;
+    let mut i = lo;
+    while i + 64 < hi {
+        n += u64::count_ones(window(s, b, i, 64)) as usize;
+        i += 64;
+    }
+    n + u64::count_ones(window(s, b, i, hi - i)) as usize
+}
+
+// How many rows of [lo, hi) a selection keeps. The source is read only where bits say which.
+pub fn count_kept(sel: Selection, s: &[u8], b: Bits, lo: usize, hi: usize) -> usize
+    requires { ⌜ Sourced sel (now s) b ⌝ }
+    requires { ⌜ (lo ≤ hi) × (hi ≤ b .len) ⌝ }
+    ensures { λ r. ⌜ r ≡ length (picksFrom (keptBy sel (now (s .entry)) b) (hi - lo) lo) ⌝ }
+{
+    match sel {
+        Selection::Nothing => 0,
+        Selection::Everything(_) => hi - lo,
+        Selection::Runs(_) => count_in(s, b, lo, hi),
+        Selection::Rows(_) => count_in(s, b, lo, hi),
+    }
+}
+
+// The number of 2, 4 or 8 bytes at a place: a run end of any width.
+fn number(s: &[u8], at: usize, width: usize) -> u64
+    requires { ⌜ oneOf (2 ∷ 4 ∷ 8 ∷ []) width ≡ true ⌝ }
+    requires { ⌜ at + width ≤ length (now s) ⌝ }
+    ensures { λ r. ⌜ r ≡ le width (now (s .entry)) at ⌝ }
+{
+    match width {
+        2 => words::get16(s, at) as u64,
+        4 => words::get32(s, at) as u64,
+        _ => words::get64(s, at),
+    }
+}
+
+// Where a run that ends at `end` ends among the rows after skip: not past the last of them.
+fn clipped(end: usize, skip: usize, len: usize) -> usize
+    ensures { λ r. ⌜ r ≡ min (end - skip) len ⌝ }
+{
+    if end <= skip {
+        return 0;
+    }
+    let row = end - skip;
+    if row < len { row } else { len }
+}
+
+// The ends of the runs with a kept row, each at the running kept count; neighbours are not merged. The n run ends stand in the journal from
+// `first` on, in width bytes each; the rows are those of the selection, counted after skip.
+pub fn filter_run_ends(
+    out: &mut [u8],
+    at: usize,
+    journal: &[u8],
+    first: usize,
+    width: usize,
+    n: usize,
+    skip: usize,
+    sel: Selection,
+    s: &[u8],
+    b: Bits,
+) -> usize
+    requires { ⌜ EndsLie width (now journal) first n ⌝ }
+    requires { ⌜ Sourced sel (now s) b ⌝ }
+    requires { ⌜ at + length (endBytes width (sizeAt width (now journal) first skip (picksFrom (keptBy sel (now s) b) (b .len) 0)) n) ≤ length (now out) ⌝ }
+    ensures { λ r. ⌜ Wrote (now (out .entry)) at (endBytes width (sizeAt width (now (journal .entry)) first skip (picksFrom (keptBy sel (now (s .entry)) b) (b .len) 0)) n) (now (out .exit)) r ⌝ }
+{
+    let len = b.len;
+    let mut here = at;
+    let mut kept: usize = 0;
+    // The rows before run j are those below lo.
+    let mut lo: usize = 0;
+    let mut j: usize = 0;
+    while j < n {
+        let end = number(journal, first + width * j, width);
+        let hi = clipped(end as usize, skip, len);
+        let size = count_kept(sel, s, b, lo, hi);
+        lo = hi;
+        j += 1;
+        if 0 < size {
+            kept += size;
+            here = append::fields::put_number(out, here, kept as u64, width);
+        }
+    }
+    here
+}
