@@ -1,0 +1,74 @@
+// The C entry points: include/wurtziteloom.h says what each argument and answer is. None requires anything of its caller.
+ghost use mathlib.Core.Path.{_≡_};
+ghost use Rattle.format.specs.Answer.{preparing, statedIf};
+ghost use Rattle.format.specs.Verdict.{journalVerdict, maskVerdict};
+ghost use Rattle.capi.specs.Numbers.{packNumber, inNumbers, slipOf, Entered};
+use format::Pack;
+use format::Prepared;
+
+// The verdict on a journal: 0 if it is accepted, else 1 to 8.
+#[no_mangle]
+pub extern "C" fn check(bytes: &[u8]) -> u64
+    ensures { λ r. ⌜ r ≡ journalVerdict (now (bytes .entry)) ⌝ }
+{
+    pack::check(bytes)
+}
+
+// The verdict on a mask: 0 if it is accepted, else 1 to 9.
+#[no_mangle]
+pub extern "C" fn check_mask(bytes: &[u8]) -> u64
+    ensures { λ r. ⌜ r ≡ maskVerdict (now (bytes .entry)) ⌝ }
+{
+    pack::check_mask(bytes)
+}
+
+// The number of the pack that a refusal names.
+fn pack_number(pack: Pack) -> u64
+    ensures { λ r. ⌜ r ≡ packNumber pack ⌝ }
+{
+    match pack {
+        Pack::Mask => 0,
+        Pack::Journal => 1,
+    }
+}
+
+// An answer as four numbers.
+fn in_numbers(answer: Prepared) -> [u64; 4]
+    ensures { λ r. ⌜ r ≡ inNumbers answer ⌝ }
+{
+    match answer {
+        Prepared::Ready { kept, slots, route } => [kept, slots, route.number(), 0],
+        Prepared::Refused { number, pack } => [number, pack_number(pack), 0, 0],
+    }
+}
+
+// The slip's number, 0 if there is none.
+fn slip_of(answer: Prepared) -> u64
+    ensures { λ r. ⌜ r ≡ slipOf answer ⌝ }
+{
+    match answer {
+        Prepared::Ready {
+            kept: _,
+            slots: _,
+            route: _,
+        } => 0,
+        Prepared::Refused { number, pack: _ } => number,
+    }
+}
+
+// A mask prepared alone: 0 and its counts and route, with the list stored where it is asked for; or the slip's number.
+#[no_mangle]
+pub extern "C" fn prepare(
+    mask: &[u8],
+    stated: bool,
+    count: u64,
+    asked: bool,
+    list: &mut [u32],
+    answer: &mut [u64; 4],
+) -> u64
+    ensures { λ r. ⌜ Entered (preparing (now (mask .entry)) (statedIf stated count) asked (now (list .entry))) r (now (answer .exit)) (now (list .exit)) ⌝ }
+{
+    let prepared = predicate::prepare(mask, stated, count, asked, list);
+    *answer = in_numbers(prepared);
+    slip_of(prepared)
+}
