@@ -1,0 +1,248 @@
+//! Differential runs: the model of document 01 against arrow-select's filter.rs, and, with the feature `port`, against the port.
+//!
+//!     differ                      all of the below, small
+//!     differ random SEED COUNT    random packs, good and damaged
+//!     differ alike SEED COUNT     pairs of journals alike in the kept part, different elsewhere (demand 3)
+//!     differ exhaustive SLOTS     every mask of up to SLOTS slots, on columns of every kind, each skip from 0 to 9
+//!     differ paper                the paper's bench cases and refusal examples, and packs at its limits
+//!
+//! The last line is 'N passed, M failed'. The smallest failing input of each run is printed in hex.
+use host::compare::{self, Journal};
+use host::make::*;
+use host::model::{self, Picks};
+use host::pack::*;
+use host::paper;
+use host::port::{Model, Port};
+use std::panic::{AssertUnwindSafe, catch_unwind};
+use std::process::ExitCode;
+use std::sync::atomic::{AtomicBool, Ordering::Relaxed};
+
+#[cfg(feature = "port")]
+fn port() -> Option<Box<dyn Port>> {
+    Some(Box::new(host::port::Linked))
+}
+
+#[cfg(not(feature = "port"))]
+fn port() -> Option<Box<dyn Port>> {
+    None
+}
+
+/// Inside a case, where a panic is a failure like any other and shown with its input.
+static QUIET: AtomicBool = AtomicBool::new(false);
+
+fn panic_message(payload: &(dyn std::any::Any + Send)) -> String {
+    let text = payload.downcast_ref::<String>().map(String::as_str).or(payload.downcast_ref::<&str>().copied());
+    format!("panicked: {}", text.unwrap_or("no message"))
+}
+
+/// What has been run, and the smallest input that failed.
+#[derive(Default)]
+struct Tally {
+    passed: u64,
+    failed: u64,
+    worst: Option<(usize, String)>,
+}
+
+impl Tally {
+    /// One case on the packs named, passed if `run` is content and does not panic.
+    fn case<T>(&mut self, name: &str, packs: &[&[u8]], run: impl FnOnce() -> Result<T, String>) -> Option<T> {
+        QUIET.store(true, Relaxed);
+        let result = catch_unwind(AssertUnwindSafe(run));
+        QUIET.store(false, Relaxed);
+        match result.unwrap_or_else(|p| Err(panic_message(p.as_ref()))) {
+            Ok(value) => {
+                self.passed += 1;
+                Some(value)
+            }
+            Err(why) => {
+                self.failed += 1;
+                let size = packs.iter().map(|p| p.len()).sum();
+                if self.worst.as_ref().is_none_or(|w| size < w.0) {
+                    let hex = |p: &&[u8]| p.iter().map(|b| format!("{b:02x}")).collect::<String>();
+                    let shown: Vec<String> = packs.iter().map(hex).collect();
+                    self.worst = Some((size, format!("{name}: {why}\n  {}", shown.join("\n  "))));
+                }
+                None
+            }
+        }
+    }
+
+    fn report(&mut self, name: &str) {
+        println!("{name}: {} passed, {} failed", self.passed, self.failed);
+        if let Some((_, why)) = self.worst.take() {
+            println!("smallest failure: {why}");
+        }
+    }
+}
+
+/// Each case has its own numbers, so that it can be made again alone.
+fn rng(seed: u64, case: u64) -> Rng {
+    Rng::new((seed << 40).wrapping_add(case))
+}
+
+/// What random cases have covered.
+#[derive(Default)]
+struct Cover {
+    compared: u64,
+    routes: [u64; 4],
+    kinds: [u64; 13],
+    verdicts: [u64; 10],
+    answers: [u64; 15],
+}
+
+/// A mask and a journal, a third of the time with damage to one; and whether both are as made.
+fn perhaps_damaged(r: &mut Rng) -> (Vec<u8>, Vec<u8>, bool) {
+    let (mask, journal) = case(r);
+    match r.below(15) {
+        0 => (damage(r, &mask), journal, false),
+        1..=4 => (mask, damage(r, &journal), false),
+        // any pack as a mask
+        5 if r.percent(20) => (journal.clone(), journal, false),
+        _ => (mask, journal, true),
+    }
+}
+
+/// Random packs.
+fn random(seed: u64, count: u64) -> Tally {
+    let mut tally = Tally::default();
+    let mut cover = Cover::default();
+    let port = port();
+    for i in 0..count {
+        let mut r = rng(seed, i);
+        let name = format!("random {seed} case {i}");
+        let (mask, journal, whole) = perhaps_damaged(&mut r);
+        cover.verdicts[model::check_mask(&mask) as usize] += 1;
+        cover.verdicts[model::check(&journal) as usize] += 1;
+        let agrees = || match compare::with_rust(&mask, &journal)? {
+            false if whole => Err("a good pack is refused".into()),
+            accepted => Ok(accepted),
+        };
+        if tally.case(&name, &[&mask, &journal], agrees) == Some(true) {
+            cover.compared += 1;
+            cover.routes[Picks::of(&mask).route() as usize] += 1;
+            Pack::read(&journal).unwrap().nodes.iter().for_each(|n| cover.kinds[n.kind as usize] += 1);
+        }
+        let Some(port) = &port else { continue };
+        let ends = tally.case(&name, &[&mask, &journal], || compare::with_port(port.as_ref(), &mut r, &mask, &journal));
+        ends.iter().flatten().for_each(|a| cover.answers[compare::number_of(a)] += 1);
+        if whole {
+            let damaged = damage(&mut r, &journal);
+            tally.case(&name, &[&damaged], || compare::verdicts(port.as_ref(), &damaged));
+        }
+    }
+    println!("compared with filter.rs: {}; by route none, all, slices, indices: {:?}", cover.compared, cover.routes);
+    println!("nodes compared, by kind: {:?}", &cover.kinds[1..]);
+    println!("verdicts on both packs, 0 to 9: {:?}; the port's answers, 0 to 14: {:?}", cover.verdicts, cover.answers);
+    tally.report(&format!("random, seed {seed}"));
+    tally
+}
+
+/// Pairs alike in the kept part.
+fn alike(seed: u64, count: u64) -> Tally {
+    let mut tally = Tally::default();
+    let port = port();
+    let mut different = 0;
+    for i in 0..count {
+        let mut r = rng(seed, i);
+        let name = format!("alike {seed} pair {i}");
+        let pair = pair(&mut r);
+        different += (pair.journals[0] != pair.journals[1]) as u64;
+        let packs: [&[u8]; 4] = [&pair.masks[0], &pair.journals[0], &pair.masks[1], &pair.journals[1]];
+        tally.case(&name, &packs, || compare::alike_with_rust(&pair));
+        if let Some(port) = port.as_ref().filter(|_| pair.same_slots) {
+            tally.case(&name, &packs, || compare::alike_by_port(port.as_ref(), &mut r, &pair));
+        }
+    }
+    println!("pairs whose journals differ in their bytes: {different} of {count}");
+    tally.report(&format!("alike, seed {seed}"));
+    tally
+}
+
+/// Two shapes of each kind, and some small nestings.
+fn few_shapes(r: &mut Rng) -> Vec<Shape> {
+    let mut shapes = vec![];
+    for kind in BITS..=DICTIONARY {
+        shapes.extend(std::iter::repeat_with(|| single(r)).filter(|s| s.kind == kind).take(2));
+    }
+    shapes.extend(nestings().into_iter().filter(|s| s.nodes() <= 5).take(6));
+    shapes
+}
+
+/// Every mask of up to `most` slots on columns of each kind, with each skip from 0 to 9, with bitmaps and without.
+fn exhaustive(most: usize) -> Tally {
+    let mut tally = Tally::default();
+    let mut r = rng(most as u64, 0);
+    let mut columns = 0;
+    for shape in few_shapes(&mut r) {
+        for (skip, bitmap) in (0..10).flat_map(|skip| [(skip, false), (skip, true)]) {
+            let column = Maker { r: &mut r, skip: Some(skip), bitmap: Some(bitmap) }.column(&shape, most, None);
+            let journal = lay(&mut r, &column);
+            every_mask(&mut tally, &mut r, &journal, most);
+            columns += 1;
+        }
+    }
+    println!("columns: {columns}; masks on each: {}", (2u64 << most) - 1);
+    tally.report(&format!("exhaustive, {most} slots"));
+    tally
+}
+
+/// Every mask of up to `most` slots on one journal.
+fn every_mask(tally: &mut Tally, r: &mut Rng, bytes: &[u8], most: usize) {
+    let port = port();
+    let journal = Journal::new(bytes);
+    for slots in 0..=most {
+        for word in 0..1u32 << slots {
+            let picks: Vec<bool> = (0..slots).map(|i| word >> i & 1 == 1).collect();
+            let mask = mask_pack(r, &picks);
+            let name = "exhaustive";
+            tally.case(name, &[&mask, bytes], || compare::mask_with_rust(&mask, &journal));
+            if let Some(port) = &port {
+                tally.case(name, &[&mask, bytes], || compare::exact(port.as_ref(), r, &mask, bytes));
+            }
+        }
+    }
+}
+
+/// The paper's own cases and its limits, with the answers that it gives.
+fn paper() -> Tally {
+    let mut tally = Tally::default();
+    let port = port();
+    for case in paper::bench().into_iter().chain(paper::refusals()).chain(paper::limits()) {
+        // the big ones are not for reading
+        let shown: &[&[u8]] = if case.journal.len() < 5000 { &[&case.mask, &case.journal] } else { &[] };
+        tally.case(case.name, shown, || compare::paper_case(&Model, &case));
+        tally.case(case.name, shown, || compare::with_rust(&case.mask, &case.journal));
+        if let Some(port) = &port {
+            tally.case(case.name, shown, || compare::paper_case(port.as_ref(), &case));
+            tally.case(case.name, shown, || compare::with_port(port.as_ref(), &mut Rng::new(1), &case.mask, &case.journal));
+        }
+    }
+    tally.case("route of every length near four fifths", &[], compare::every_route);
+    tally.report("paper");
+    tally
+}
+
+fn main() -> ExitCode {
+    let usual = std::panic::take_hook();
+    std::panic::set_hook(Box::new(move |panic| {
+        if !QUIET.load(Relaxed) {
+            usual(panic);
+        }
+    }));
+    let words: Vec<String> = std::env::args().skip(1).collect();
+    let numbers: Option<Vec<u64>> = words.iter().skip(1).map(|word| word.parse().ok()).collect();
+    let tallies = match (words.first().map(String::as_str), numbers.as_deref()) {
+        (None, _) => vec![paper(), random(1, 3000), alike(1, 1000), exhaustive(5)],
+        (Some("paper"), Some([])) => vec![paper()],
+        (Some("random"), Some(&[seed, count])) => vec![random(seed, count)],
+        (Some("alike"), Some(&[seed, count])) => vec![alike(seed, count)],
+        (Some("exhaustive"), Some(&[slots @ 0..=16])) => vec![exhaustive(slots as usize)],
+        _ => {
+            eprintln!("differ [random SEED COUNT | alike SEED COUNT | exhaustive SLOTS (at most 16) | paper]");
+            return ExitCode::from(2);
+        }
+    };
+    let (passed, failed) = tallies.iter().fold((0, 0), |(p, f), t| (p + t.passed, f + t.failed));
+    println!("{passed} passed, {failed} failed");
+    if failed == 0 && passed > 0 { ExitCode::SUCCESS } else { ExitCode::FAILURE }
+}

@@ -1,0 +1,285 @@
+//! The bench cases and refusal examples of document 01, and packs at its limits, each with the answer that the paper gives.
+use crate::pack::*;
+
+/// A call and what must come of it.
+pub struct Case {
+    pub name: &'static str,
+    pub mask: Vec<u8>,
+    pub journal: Vec<u8>,
+    pub stated: Option<u64>,
+    /// entries of the list, if it is asked for
+    pub list: Option<usize>,
+    pub scratch: usize,
+    pub output: usize,
+    /// the line that program `extract` would print
+    pub line: &'static str,
+    /// bytes that stand in the extract: at a place, these
+    pub bytes: Vec<(usize, Vec<u8>)>,
+}
+
+impl Case {
+    fn new(name: &'static str, mask: Vec<u8>, journal: Vec<u8>, line: &'static str) -> Self {
+        Self { name, mask, journal, stated: None, list: None, scratch: 64, output: 4096, line, bytes: vec![] }
+    }
+    fn with(mut self, at: usize, bytes: &[u8]) -> Self {
+        self.bytes.push((at, bytes.to_vec()));
+        self
+    }
+}
+
+fn node(kind: u32, param: u32, rows: usize, kids: usize, first: usize) -> Node {
+    Node { first: first as u32, ..Node::new(kind, param, rows, kids) }
+}
+
+fn packed(bits: impl Iterator<Item = bool>) -> Vec<u8> {
+    let mut out = vec![];
+    for (i, bit) in bits.enumerate() {
+        out.resize(i / 8 + 1, 0);
+        out[i / 8] |= (bit as u8) << (i % 8);
+    }
+    out
+}
+
+/// T, F and n (null) for each slot.
+fn mask(slots: &str) -> Vec<u8> {
+    let mut body = packed(slots.chars().map(|c| c == 'T'));
+    let mut n = node(BITS, 0, slots.len(), 0, 0);
+    if slots.contains('n') {
+        n.validity = body.len() as u32;
+        body.extend(packed(slots.chars().map(|c| c != 'n')));
+    }
+    finish(body, &[n])
+}
+
+/// A mask of `slots` slots whose first `picks` are picked.
+fn first_of(picks: usize, slots: usize) -> Vec<u8> {
+    finish(packed((0..slots).map(|i| i < picks)), &[node(BITS, 0, slots, 0, 0)])
+}
+
+fn numbers(values: &[u32]) -> Vec<u8> {
+    values.iter().flat_map(|v| v.to_le_bytes()).collect()
+}
+
+fn native(values: &[u32]) -> Vec<u8> {
+    finish(numbers(values), &[node(NATIVE, 4, values.len(), 0, 0)])
+}
+
+/// `rows` rows of one byte each.
+fn column(rows: usize) -> Vec<u8> {
+    finish((0..rows).map(|i| i as u8).collect(), &[node(NATIVE, 1, rows, 0, 0)])
+}
+
+fn runs(ends: &[u32], skip: u32, rows: usize) -> Vec<u8> {
+    let mut body = numbers(ends);
+    let first = body.len();
+    body.extend((0..ends.len()).map(|i| (b'a' as usize + i) as u8));
+    finish(body, &[Node { skip, ..node(RUNS, 4, rows, 1, 0) }, node(NATIVE, 1, ends.len(), 0, first)])
+}
+
+fn strings(values: &[&str]) -> Vec<u8> {
+    let mut offsets = vec![0];
+    values.iter().for_each(|v| offsets.push(offsets.last().unwrap() + v.len() as u32));
+    let mut body = numbers(&offsets);
+    let second = body.len() as u32;
+    body.extend(values.concat().bytes());
+    let second_length = body.len() as u32 - second;
+    finish(body, &[Node { second, second_length, ..node(BYTES, 0, values.len(), 0, 0) }])
+}
+
+/// P1 to P11 as far as a call can show them, and the cases of length 128.
+pub fn bench() -> Vec<Case> {
+    let five = native(&[5, 6, 7, 8, 9]);
+    let p1 = [numbers(&[5, 8, 2, 4, 2, 0, 0, NO_BITMAP, 0, 0, 0, 0, 8, 1, 2]), MARK.to_vec()].concat();
+    let mut nulls = numbers(&[1, 2, 3]);
+    nulls.push(0b101);
+    let nulls = finish(nulls, &[Node { validity: 12, ..node(NATIVE, 4, 3, 0, 0) }]);
+    let mut cases = vec![
+        Case::new("P1", mask("TFFTF"), five, "rows 2 of 5 route indices bytes 64").with(0, &p1),
+        Case::new("P2", mask("TnTF"), native(&[1, 2, 3, 4]), "rows 2 of 4 route indices bytes 64").with(0, &numbers(&[1, 3])),
+        Case::new("P3", mask("TTFTT"), column(5), "rows 4 of 5 route indices bytes 64").with(0, &[0, 1, 3, 4]),
+        Case::new("P4", mask("TTFTTT"), column(6), "rows 5 of 6 route slices bytes 64").with(0, &[0, 1, 3, 4, 5]),
+        Case::new("P5", mask(""), column(0), "rows 0 of 0 route none bytes 56"),
+        Case::new("P6", mask("TTT"), column(3), "rows 3 of 3 route all bytes 64").with(0, &[0, 1, 2]),
+        Case::new("P8", mask("TFT"), strings(&["ab", "", "cde"]), "rows 2 of 3 route indices bytes 80")
+            .with(0, &numbers(&[0, 2, 5]))
+            .with(16, b"abcde"),
+        Case::new("P9", mask("TFFFFT"), runs(&[2, 5, 6], 0, 6), "rows 2 of 6 route indices bytes 112")
+            .with(0, &numbers(&[1, 2]))
+            .with(8, b"ac"),
+        Case::new("P10", mask("FTT"), runs(&[2, 5, 6], 1, 4), "rows 2 of 3 route indices bytes 112")
+            .with(0, &numbers(&[2]))
+            .with(8, b"b"),
+        Case::new("P11", mask("TFT"), nulls, "rows 2 of 3 route indices bytes 64").with(28, &numbers(&[NO_BITMAP])),
+    ];
+    for (picks, line) in [
+        (126, "rows 126 of 128 route slices bytes 72"),
+        (125, "rows 125 of 128 route slices bytes 72"),
+        (2, "rows 2 of 128 route indices bytes 64"),
+        (3, "rows 3 of 128 route indices bytes 64"),
+    ] {
+        let journal = finish(packed((0..128).map(|i| i % 3 == 0)), &[node(BITS, 0, 128, 0, 0)]);
+        let kept = packed((0..picks).map(|i| i % 3 == 0));
+        let list = Some(128);
+        cases.push(Case { list, ..Case::new("length 128", first_of(picks, 128), journal, line) }.with(0, &kept));
+    }
+    cases
+}
+
+/// The example of each refusal.
+pub fn refusals() -> Vec<Case> {
+    let plain = || mask("TFFTF");
+    let good = || column(5);
+    let journal = |name, journal, line| Case::new(name, plain(), journal, line);
+    let one = |n: Node, body: &[u8]| finish(body.to_vec(), &[n]);
+    let mut unmarked = good();
+    *unmarked.last_mut().unwrap() = 0;
+    let mut no_nodes = vec![0; 12];
+    no_nodes.extend(MARK);
+    let falling = [numbers(&[0, 3, 2]), vec![0; 8]].concat();
+    let falling = one(Node { second: 12, second_length: 3, ..node(BYTES, 0, 2, 0, 0) }, &falling);
+    let nine: Vec<u32> = (1..=9).collect();
+    vec![
+        journal("1: 15 bytes", good()[..15].to_vec(), "refused 1 journal"),
+        journal("2: ends in 00", unmarked, "refused 2 journal"),
+        journal("3: 0 nodes", no_nodes, "refused 3 journal"),
+        journal("4: kind 99", one(node(99, 0, 0, 0, 0), &[]), "refused 4 journal"),
+        journal("5: 1 node with 1 kid", one(node(STRUCT, 0, 0, 1, 0), &[]), "refused 5 journal"),
+        journal("6: 1,048,577 rows", one(node(BITS, 0, 1_048_577, 0, 0), &vec![0; 131_073]), "refused 6 journal"),
+        journal("7: 12 bytes in a body of 8", one(node(NATIVE, 4, 3, 0, 0), &[0; 8]), "refused 7 journal"),
+        journal("8: offsets 0, 3, 2", falling, "refused 8 journal"),
+        Case::new("9: native root", good(), good(), "refused 9 mask"),
+        Case::new("10: 6 against 5", mask("TFFTFF"), good(), "refused 10 journal"),
+        Case { stated: Some(3), ..Case::new("11: 3 for T, null, T, F", mask("TnTF"), good(), "refused 11 mask") },
+        Case { list: Some(2), ..Case::new("12: 3 picks, 2 places", mask("TTTFF"), good(), "refused 12 journal") },
+        Case { scratch: 1, ..Case::new("13: 9 runs, 1 byte", mask("T"), runs(&nine, 0, 9), "refused 13 journal") },
+        Case { output: 63, ..Case::new("14: 64 into 63", plain(), native(&[5, 6, 7, 8, 9]), "refused 14 journal") },
+    ]
+}
+
+/// A struct whose extract by one more `data` byte passes a multiple of 8: 31 fixed children over one buffer, and bytes.
+fn large(data: usize) -> Vec<u8> {
+    let (rows, width) = (512, 1024);
+    let mut body: Vec<u8> = (0..rows * width).map(|i| (i / 7) as u8).collect();
+    let first = body.len();
+    // all data is the last row's
+    body.extend(numbers(&vec![0; rows]));
+    body.extend((data as u32).to_le_bytes());
+    let second = body.len() as u32;
+    body.extend((0..data).map(|i| (i / 5) as u8));
+    let mut nodes = vec![node(STRUCT, 0, rows, 32, 0)];
+    nodes.extend(vec![node(FIXED, width as u32, rows, 0, 0); 31]);
+    nodes.push(Node { second, second_length: data as u32, ..node(BYTES, 0, rows, 0, first) });
+    finish(body, &nodes)
+}
+
+/// A chain of structs over bits, `depth` deep.
+fn chain(depth: usize) -> Vec<u8> {
+    let mut nodes = vec![node(STRUCT, 0, 1, 1, 0); depth - 1];
+    nodes.push(node(BITS, 0, 1, 0, 0));
+    finish(vec![1], &nodes)
+}
+
+/// A struct of `kids` children.
+fn wide(kids: usize) -> Vec<u8> {
+    let mut nodes = vec![node(STRUCT, 0, 1, kids, 0)];
+    nodes.extend(vec![node(BITS, 0, 1, 0, 0); kids]);
+    finish(vec![1], &nodes)
+}
+
+/// A native column of 1 row in a pack of so many bytes.
+fn padded(bytes: usize) -> Vec<u8> {
+    finish(vec![7; bytes - NODE_BYTES - TRAILER_BYTES], &[node(NATIVE, 1, 1, 0, 0)])
+}
+
+/// Packs at their limits, and one past.
+pub fn limits() -> Vec<Case> {
+    let one = |name, journal, line| Case::new(name, mask("T"), journal, line);
+    let bits = |skip: u32, rows: usize| {
+        finish(vec![0xA5; (skip as usize + rows).div_ceil(8)], &[Node { skip, ..node(BITS, 0, rows, 0, 0) }])
+    };
+    let fixed = |width: u32| finish(vec![9; 1025], &[node(FIXED, width, 1, 0, 0)]);
+    let all = || mask(&"T".repeat(512));
+    let most = PACK_LIMIT;
+    // 31 * 524,288 + offsets 2,056 + data 520,896 + table 1,320 + trailer 16 = 16,777,216
+    let exact = |output| Case { output, ..Case::new("extract of 16,777,216 bytes", all(), large(520_896), "") };
+    let ends: Vec<u32> = (1..=1_048_576).collect();
+    let many_runs = runs(&ends, 0, 1_048_576);
+    let table = |start: u32| {
+        let mut pack = column(5);
+        let at = pack.len() - TRAILER_BYTES;
+        pack[at..at + 4].copy_from_slice(&start.to_le_bytes());
+        pack
+    };
+    vec![
+        one("pack of 16,777,216 bytes", padded(most), "rows 1 of 1 route all bytes 64").with(0, &[7]),
+        one("one byte more", padded(most + 1), "refused 1 journal"),
+        Case::new("mask of 17 MiB", padded(most + 1), column(5), "refused 1 mask"),
+        one("64 nodes", wide(63), "rows 1 of 1 route all bytes 3080"),
+        one("65 nodes", wide(64), "refused 3 journal"),
+        one("depth 8", chain(8), "rows 1 of 1 route all bytes 344"),
+        one("depth 9", chain(9), "refused 5 journal"),
+        one("fixed of 1,024", fixed(1024), "rows 1 of 1 route all bytes 1080"),
+        one("fixed of 1,025", fixed(1025), "refused 4 journal"),
+        one("skip and 1,048,576 rows in all", bits(1_048_575, 1), "rows 1 of 1 route all bytes 64"),
+        one("skip and 1,048,577 rows in all", bits(1_048_576, 1), "refused 6 journal"),
+        one("table one byte late", table(6), "refused 3 journal"),
+        one("table far away", table(0xFFFF_FFD8), "refused 3 journal"),
+        Case {
+            output: 65_592,
+            ..Case::new(
+                "longest mask",
+                bits(0, 1_048_576),
+                bits(0, 1_048_576),
+                "rows 524288 of 1048576 route indices bytes 65592",
+            )
+        },
+        Case {
+            output: 1 << 21,
+            ..Case::new(
+                "4 of 5 at the longest",
+                first_of(838_860, 1_048_575),
+                column(1_048_576),
+                "rows 838860 of 1048575 route indices bytes 838920",
+            )
+        },
+        Case {
+            output: 1 << 21,
+            ..Case::new(
+                "one more",
+                first_of(838_861, 1_048_575),
+                column(1_048_576),
+                "rows 838861 of 1048575 route slices bytes 838920",
+            )
+        },
+        Case {
+            scratch: 131_072,
+            ..Case::new("1,048,576 runs", first_of(3, 1_048_576), many_runs.clone(), "rows 3 of 1048576 route indices bytes 120")
+        },
+        Case { scratch: 131_071, ..Case::new("scratch one short", first_of(3, 1_048_576), many_runs, "refused 13 journal") },
+        Case { line: "rows 512 of 512 route all bytes 16777216", ..exact(most) },
+        Case { line: "refused 14 journal", ..exact(most - 1) },
+        Case { output: most + 64, ..Case::new("extract over 16,777,216 bytes", all(), large(520_897), "refused 14 journal") },
+        Case::new(
+            "struct with no child and no buffer",
+            mask("TFT"),
+            finish(vec![], &[node(STRUCT, 0, 4, 0, 0)]),
+            "rows 2 of 3 route indices bytes 56",
+        ),
+        Case::new(
+            "union with no child and no row",
+            mask(""),
+            finish(vec![], &[node(UNION, 0, 0, 0, 0)]),
+            "rows 0 of 0 route none bytes 56",
+        ),
+        Case::new("runs with no run and no row", mask(""), runs(&[], 0, 0), "rows 0 of 0 route none bytes 96"),
+        Case::new("no run, one row passed over", mask(""), runs(&[], 1, 0), "refused 8 journal"),
+        Case::new("runs past the last row only", mask(""), runs(&[3, 4], 0, 0), "rows 0 of 0 route none bytes 96"),
+        one("an empty buffer past the body", finish(vec![], &[node(FIXED, 0, 1, 0, 1)]), "refused 7 journal"),
+        one("an empty buffer at its end", finish(vec![], &[node(FIXED, 0, 1, 0, 0)]), "rows 1 of 1 route all bytes 56"),
+        Case { stated: Some(u64::MAX), ..Case::new("a huge count", mask("TF"), column(5), "refused 11 mask") },
+        Case {
+            stated: Some(1 << 32 | 1),
+            ..Case::new("a count that agrees in 32 bits", mask("TF"), column(5), "refused 11 mask")
+        },
+    ]
+}

@@ -1,0 +1,243 @@
+//! The comparison must notice a wrong port: each one here is the model with one fault, among them the paper's misreadings and
+//! worthless readers.
+use host::compare;
+use host::make::*;
+use host::model::{self, Answer, Call, Named, Picks, Return, Route};
+use host::pack::*;
+use host::port::{Model, Port};
+
+/// The model, with its `filter` replaced.
+struct Faulty<F: Fn(&Call) -> Return>(F);
+
+impl<F: Fn(&Call) -> Return> Port for Faulty<F> {
+    fn filter(&self, call: &Call) -> Result<Return, String> {
+        Ok(self.0(call))
+    }
+    fn prepare(&self, mask: &[u8], stated: Option<u64>, asked: bool, list: &[u32]) -> Result<(Answer, Vec<u32>), String> {
+        Model.prepare(mask, stated, asked, list)
+    }
+    fn check(&self, pack: &[u8]) -> u64 {
+        model::check(pack)
+    }
+    fn check_mask(&self, mask: &[u8]) -> u64 {
+        model::check_mask(mask)
+    }
+}
+
+/// Differences found in a run of 2000 cases.
+fn differences(port: &dyn Port) -> usize {
+    let found = |i: &u64| {
+        let mut r = Rng::new(*i);
+        let (mask, mut journal) = case(&mut r);
+        if r.percent(20) {
+            journal = damage(&mut r, &journal);
+        }
+        compare::with_port(port, &mut r, &mask, &journal).is_err()
+    };
+    (0..2000).filter(found).count()
+}
+
+/// The port with this `filter` is told from the model.
+#[track_caller]
+fn is_noticed(filter: impl Fn(&Call) -> Return) {
+    assert_ne!(differences(&Faulty(filter)), 0);
+}
+
+fn refused(call: &Call, number: u64, pack: Named) -> Return {
+    let answer = Answer::Refused { number, pack };
+    Return { answer, output: call.output.to_vec(), list: call.list.to_vec(), scratch: call.scratch.to_vec() }
+}
+
+/// The call on changed packs.
+fn changed(call: &Call, mask: impl Fn(&mut Node), journal: impl Fn(&mut Node)) -> Return {
+    let change = |bytes: &[u8], f: &dyn Fn(&mut Node)| -> Vec<u8> {
+        match model::check(bytes) {
+            0 => {
+                let mut pack = Pack::read(bytes).unwrap();
+                pack.nodes.iter_mut().for_each(f);
+                finish(pack.body.to_vec(), &pack.nodes)
+            }
+            _ => bytes.to_vec(),
+        }
+    };
+    let (mask, journal) = (change(call.mask, &mask), change(call.journal, &journal));
+    model::filter(&Call { mask: &mask, journal: &journal, ..*call })
+}
+
+#[test]
+fn the_model_itself_passes() {
+    assert_eq!(differences(&Model), 0);
+}
+
+#[test]
+fn refuses_each_journal() {
+    is_noticed(|call| refused(call, 8, Named::Journal));
+}
+
+#[test]
+fn touches_no_output() {
+    is_noticed(|call| Return { output: call.output.to_vec(), ..model::filter(call) });
+}
+
+#[test]
+fn touches_output_past_the_extract() {
+    is_noticed(|call| {
+        let mut end = model::filter(call);
+        if let Answer::Done { bytes, .. } = end.answer {
+            end.output[bytes as usize..].fill(0);
+        }
+        end
+    });
+}
+
+#[test]
+fn zeroes_the_last_column() {
+    is_noticed(|call| {
+        let mut end = model::filter(call);
+        if let Answer::Done { bytes, .. } = end.answer {
+            let pack = Pack::read(&end.output[..bytes as usize]).unwrap();
+            let (last, start) = (*pack.nodes.last().unwrap(), pack.body.len());
+            if pack.nodes.len() > 1 && last.kind != STRUCT {
+                end.output[last.first as usize..start].fill(0);
+            }
+        }
+        end
+    });
+}
+
+#[test]
+fn invents_the_count() {
+    is_noticed(|call| {
+        let mut end = model::filter(call);
+        if let Answer::Done { kept, .. } = &mut end.answer {
+            *kept = (*kept).max(1);
+        }
+        end
+    });
+}
+
+#[test]
+fn takes_four_of_five_as_slices() {
+    is_noticed(|call| {
+        let mut end = model::filter(call);
+        if let Answer::Done { kept, slots, route, .. } = &mut end.answer
+            && 5 * *kept == 4 * *slots
+            && *kept != 0
+        {
+            *route = Route::Slices;
+        }
+        end
+    });
+}
+
+#[test]
+fn says_14_before_measuring() {
+    is_noticed(|call| match model::filter(call) {
+        end if call.output.len() < call.journal.len() && matches!(end.answer, Answer::Done { .. }) => {
+            refused(call, 14, Named::Journal)
+        }
+        end => end,
+    });
+}
+
+#[test]
+fn counts_null_as_true() {
+    is_noticed(|call| changed(call, |n| n.validity = NO_BITMAP, |_| ()));
+}
+
+#[test]
+fn ignores_skip_in_run_ends() {
+    is_noticed(|call| changed(call, |_| (), |n| n.skip *= (n.kind != RUNS) as u32));
+}
+
+#[test]
+fn ignores_the_bitmap() {
+    is_noticed(|call| changed(call, |_| (), |n| n.validity = if n.kind == DICTIONARY { n.validity } else { NO_BITMAP }));
+}
+
+#[test]
+fn tests_keys_of_null_rows() {
+    is_noticed(|call| match changed(call, |_| (), |n| n.validity = if n.kind == DICTIONARY { NO_BITMAP } else { n.validity }) {
+        Return { answer: Answer::Refused { number: 8, .. }, .. } => refused(call, 8, Named::Journal),
+        _ => model::filter(call),
+    });
+}
+
+#[test]
+fn refuses_a_short_mask() {
+    is_noticed(|call| match model::filter(call) {
+        end @ Return { answer: Answer::Done { slots, .. }, .. } => {
+            match slots < Pack::read(call.journal).unwrap().nodes[0].rows as u64 {
+                true => refused(call, 10, Named::Journal),
+                false => end,
+            }
+        }
+        end => end,
+    });
+}
+
+#[test]
+fn names_the_journal_for_a_wrong_count() {
+    is_noticed(|call| match model::filter(call) {
+        Return { answer: Answer::Refused { number: 11, .. }, .. } => refused(call, 11, Named::Journal),
+        end => end,
+    });
+}
+
+#[test]
+fn leaves_scratch_dirty() {
+    is_noticed(|call| Return { scratch: call.scratch.to_vec(), ..model::filter(call) });
+}
+
+#[test]
+fn zeroes_all_scratch() {
+    is_noticed(|call| {
+        let mut end = model::filter(call);
+        if matches!(end.answer, Answer::Done { .. }) {
+            end.scratch.fill(0);
+        }
+        end
+    });
+}
+
+#[test]
+fn stores_a_list_not_asked_for() {
+    is_noticed(|call| model::filter(&Call { asked: true, ..*call }));
+}
+
+#[test]
+fn stores_the_list_before_a_refusal() {
+    is_noticed(|call| {
+        let mut end = model::filter(call);
+        if call.asked && compare::number_of(&end.answer) >= 13 {
+            let entries = Picks::of(call.mask).entries();
+            end.list[..entries.len()].copy_from_slice(&entries);
+        }
+        end
+    });
+}
+
+#[test]
+fn leaves_a_spare_bit() {
+    is_noticed(|call| {
+        let mut end = model::filter(call);
+        if let Answer::Done { bytes, .. } = end.answer {
+            let pack = Pack::read(&end.output[..bytes as usize]).unwrap();
+            let n = pack.nodes[0];
+            if n.kind == BITS && n.rows % 8 != 0 {
+                end.output[n.first as usize + n.rows as usize / 8] |= 0x80;
+            }
+        }
+        end
+    });
+}
+
+#[test]
+fn refuses_an_exact_output() {
+    is_noticed(|call| match model::filter(call) {
+        Return { answer: Answer::Done { bytes, .. }, .. } if bytes == call.output.len() as u64 => {
+            refused(call, 14, Named::Journal)
+        }
+        end => end,
+    });
+}
