@@ -41,15 +41,19 @@ module _ (b : List ℕ) (i : ℕ) where
   pub is-bytes64 : kind b i ≡ Bytes64 → kindNumber b i ≡ 5
   is-bytes64 e = number-kind b i Bytes64 e (λ q. let z : _≡_ {A = ℕ} 5 0 = ap numberOf q in omega arith)
 
-  -- a node with children that is none of these carries them
-  pub of-others : Inner (kind b i) → (kindNumber b i ≡ 9 → ⊥) → (kindNumber b i ≡ 10 → ⊥) → (kindNumber b i ≡ 11 → ⊥) → Carries (kind b i)
-  of-others n f g h = go (kind b i) refl n
+  -- a node that hands on its own rows is known by its number
+  pub not-shared : (kindNumber b i ≡ 10 → ⊥) → (kindNumber b i ≡ 11 → ⊥) → Shares (kind b i) → ⊥
+  not-shared g h s = go (kind b i) refl s
     where
-      go : (k : Kind) → kind b i ≡ k → Inner k → Carries k
-      go Struct e (is.Inner.shared is.Shares.struct) = absurd (g (number-kind b i Struct e (λ q. let z : _≡_ {A = ℕ} 10 0 = ap numberOf q in omega arith)))
-      go Union e (is.Inner.shared is.Shares.union) = absurd (h (number-kind b i Union e (λ q. let z : _≡_ {A = ℕ} 11 0 = ap numberOf q in omega arith)))
-      go k e (is.Inner.byRuns q) = absurd (f (rw q at (number-kind b i k e (λ u. let z : _≡_ {A = ℕ} 9 0 = ap numberOf (rw q at u) in omega arith))))
-      go k e (is.Inner.carried c) = c
+      go : (k : Kind) → kind b i ≡ k → Shares k → ⊥
+      go Struct e is.Shares.struct = g (number-kind b i Struct e (λ q. let z : _≡_ {A = ℕ} 10 0 = ap numberOf q in omega arith))
+      go Union e is.Shares.union = h (number-kind b i Union e (λ q. let z : _≡_ {A = ℕ} 11 0 = ap numberOf q in omega arith))
+
+  -- a node with children that hands on neither its rows nor its runs carries them
+  pub of-others : Inner (kind b i) → (kindNumber b i ≡ 9 → ⊥) → (Shares (kind b i) → ⊥) → Carries (kind b i)
+  of-others (is.Inner.shared s) f g = absurd (g s)
+  of-others (is.Inner.byRuns e) f g = absurd (f (number-kind b i Runs e (λ q. let z : _≡_ {A = ℕ} 9 0 = ap numberOf q in omega arith)))
+  of-others (is.Inner.carried c) f g = c
 
 module _ (b : List ℕ) {table : List ℕ} (t : Table b table) (i : ℕ) (h : i < nodeCount b) where
   pub kind-at : getD table (10 * i) 0 ≡ kindNumber b i

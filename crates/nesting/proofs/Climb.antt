@@ -14,7 +14,7 @@ use Rattle.format.proofs.Laws.{kept-root}
 use Rattle.nesting.specs.Rows.{between, Ready, AtRuns}
 use Rattle.nesting.proofs.Between.{empty}
 use Rattle.nesting.proofs.Runs.{runs-kept, carried-any}
-use Rattle.nesting.proofs.ByKind.{of-struct, of-union, of-runs, of-others, kind-at, rows-at, skip-at, rows-small, skip-small}
+use Rattle.nesting.proofs.ByKind.{of-struct, of-union, of-runs, not-shared, of-others, kind-at, rows-at, skip-at, rows-small, skip-small}
 use Rattle.nesting.proofs.Tree.{kept-shared, kept-runs, kept-carried, kept-cut, run-child}
 
 -- the question about [from, to) of the node has become one about [lo, hi) of node i
@@ -133,7 +133,7 @@ module _ {b root table parents counts : List ℕ} {node from to i lo hi : ℕ} (
           → ltb 0 (getD counts (getD parents i 0) 0) ≡ between (keptRows b root node) from to
       under-carrier r s u =
           carry before-end
-          (of-others b (getD parents i 0) (rw is-parent (ready .sound .shape .inner i some (g .inside))) (λ e. r (kind-here ∙ e)) (λ e. s (kind-here ∙ e)) (λ e. u (kind-here ∙ e)))
+          (of-others b (getD parents i 0) (rw is-parent (ready .sound .shape .inner i some (g .inside))) (λ e. r (kind-here ∙ e)) (not-shared b (getD parents i 0) (λ e. s (kind-here ∙ e)) (λ e. u (kind-here ∙ e))))
 
       module _ (e : getD table (10 * getD parents i 0) 0 ≡ 9) where
         above-runs : kind b (getD parents i 0) ≡ Runs

@@ -13,7 +13,7 @@ use Rattle.format.specs.Write.{dataLength}
 use Rattle.format.specs.Accepted.{Shares, Carries, Offsets}
 use Rattle.format.proofs.Laws.{length-table, kept-root}
 use Rattle.nesting.specs.Rows.{Ready}
-use Rattle.nesting.proofs.ByKind.{of-struct, of-union, of-others, of-bytes32, of-bytes64, is-bytes32, is-bytes64, kind-at, rows-at}
+use Rattle.nesting.proofs.ByKind.{of-struct, of-union, not-shared, of-others, of-bytes32, of-bytes64, is-bytes32, is-bytes64, kind-at, rows-at}
 use Rattle.nesting.proofs.Tree.{kept-shared, kept-carried}
 
 carried-none : (rs : List ℕ) (n : ℕ) → length rs ≡ 0 → 0 ≡ length (carried rs n)
@@ -68,7 +68,7 @@ module _ {b root table parents counts : List ℕ} {node : ℕ} (ready : Ready b 
   module _ (r : getD table (10 * getD parents node 0) 0 ≡ 9 → ⊥) (s : getD table (10 * getD parents node 0) 0 ≡ 10 → ⊥) (u : getD table (10 * getD parents node 0) 0 ≡ 11 → ⊥) where
     carrier : Carries (kind b (getD parents node 0))
     carrier =
-        of-others b (getD parents node 0) (rw is-parent (ready .sound .shape .inner node some h)) (λ e. r (above-kind ∙ e)) (λ e. s (above-kind ∙ e)) (λ e. u (above-kind ∙ e))
+        of-others b (getD parents node 0) (rw is-parent (ready .sound .shape .inner node some h)) (λ e. r (above-kind ∙ e)) (not-shared b (getD parents node 0) (λ e. s (above-kind ∙ e)) (λ e. u (above-kind ∙ e)))
 
     pub under-empty : getD counts (getD parents node 0) 0 ≡ 0 → 0 ≡ length (keptRows b root node)
     under-empty e = counted-none carrier e

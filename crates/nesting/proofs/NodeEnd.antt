@@ -17,7 +17,6 @@ use Rattle.format.specs.Node.{nodeCount, kindNumber, kindOf, kind, param, rows,
 use Rattle.format.specs.Verdict.{packLimit, layout, firstSize, secondSize}
 use Rattle.format.specs.Kept.{keptRows, keptRuns, cells}
 use Rattle.format.specs.Write.{anyNull, bitmap, first, second, dataLength, extract}
-use Rattle.format.specs.Mask.{picks, maskLength}
 use Rattle.format.specs.Accepted.{Sound}
 use Rattle.format.specs.Accepted as is
 use Rattle.format.proofs.Accepted.{numberOf, number-kind}
@@ -25,7 +24,7 @@ use Rattle.format.proofs.Measure.{grown}
 use Rattle.pack.specs.Tree.{Parents}
 use Rattle.pack.proofs.Stack.{holds-none}
 use Rattle.slots.specs.declared.Bits.{Bits as Source}
-use Rattle.nesting.specs.Rows.{Ready, Sifted, Counts, Table, BitsOf, picksOf}
+use Rattle.nesting.specs.Rows.{Ready, Sifted, Counts, Table, picksOf}
 use Rattle.nesting.specs.Size.{grownIf, bodyEnd}
 use Rattle.nesting.proofs.Between.{length-sifted}
 use Rattle.nesting.proofs.Arrays.{holds-less}
@@ -173,15 +172,13 @@ grown-little at null k c p q d hc hp hq hd =
     )
 
 -- before the first node is counted
-pub ready-first : {m b table parents : List ℕ} {bits : Source} → Sound b → BitsOf m bits → maskLength m ≤ rows b 0 → Table b table → Parents b parents
+pub ready-first : {b table parents : List ℕ} (m : List ℕ) (bits : Source) → Sound b → bits .len ≤ rows b 0 → Table b table → Parents b parents
     → Ready b (picksOf m bits) table parents [] 0
-ready-first {m} {b} {bits = bits} s o l t p =
-    record { sound = s; rooted = picks-sifted m bits (rows b 0) (rw (o .whole) l); tabled = t; above = p; counted = holds-none _ _ }
+ready-first {b} m bits s l t p = record { sound = s; rooted = picks-sifted m bits (rows b 0) l; tabled = t; above = p; counted = holds-none _ _ }
 
 pub body-all : (b root : List ℕ) (i at : ℕ) → at ≡ bodyEnd b root i → i ≡ nodeCount b → at ≡ bodyEnd b root (nodeCount b)
 body-all b root i at e h = e ∙ ap (λ (k : ℕ). bodyEnd b root k) h
 
 -- the whole extract
-pub extract-is : (m b : List ℕ) (bits : Source) → BitsOf m bits → {end r n : ℕ} → end ≡ bodyEnd b (picksOf m bits) (nodeCount b) → r ≡ raised end → n ≡ nodeCount b
-    → r + 40 * n + 16 ≡ length (extract b (picks m))
-extract-is m b bits o ee er en = rw (er, ee, en, ← o .same) (sym (extract-length b (picksOf m bits)))
+pub extract-is : (b root : List ℕ) {end r n : ℕ} → end ≡ bodyEnd b root (nodeCount b) → r ≡ raised end → n ≡ nodeCount b → r + 40 * n + 16 ≡ length (extract b root)
+extract-is b root ee er en = rw (er, ee, en) (sym (extract-length b root))

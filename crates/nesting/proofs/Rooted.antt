@@ -1,6 +1,6 @@
 -- Nodes that keep the root's rows: the climb to it, nulls by words, bytes by runs. Assumes nothing.
 use Prim.Native.Nat.{ℕ, zero, suc, _+_, _-_, _*_, _^_, _/_, _%_, _≤_, _<_}
-use mathlib.Core.Bool.{Bool, true, false, not, _&&_, false≢true}
+use mathlib.Core.Bool.{Bool, true, false, not, _&&_}
 use mathlib.Core.List.{List, map}
 use mathlib.Core.Path.{_≡_, refl, sym, ap, _∙_}
 use mathlib.Core.Logic.{dite}
@@ -8,7 +8,9 @@ use native.Mathlib.Decide.{decLt}
 use native.Mathlib.Nat.{add-zero, add-suc}
 use native.Mathlib.Numerals.{add-one}
 use native.Mathlib.Omega.{arith}
+use borrow.Author.Tests.{eqb-true}
 use lib.Bits.{bitAnd}
+use lib.Dec.{eqb}
 use lib.ListN.{length, getD}
 use Rattle.format.specs.Bytes.{anyBelow, chosen, join, one, bitIn}
 use Rattle.format.specs.Slots.{wordFrom, All, FirstRun}
@@ -17,35 +19,28 @@ use Rattle.format.specs.Kept.{keptRows, ownBytes}
 use Rattle.format.specs.Write.{anyNull}
 use Rattle.format.specs.Accepted.{Shares, Sound, Offsets}
 use Rattle.format.proofs.Laws.{any-none, kept-root, chosen-miss}
-use Rattle.format.proofs.SlotLaws.{all-join, all-less, upTo-past}
+use Rattle.format.proofs.SlotLaws.{all-join, all-less}
 use Rattle.format.proofs.WordLaws.{from-and, from-bit, from-ext, from-shift}
-use Rattle.slots.specs.declared.Bits.{Bits}
-use Rattle.slots.specs.Source.{bothSet, slotOf}
-use Rattle.nesting.specs.Rows.{Ready, Nodes, AtRoot}
-use Rattle.nesting.proofs.ByKind.{of-struct, of-union, kind-at}
+use Rattle.nesting.specs.Rows.{Ready, Nodes, AtRoot, Level, Top}
+use Rattle.nesting.proofs.ByKind.{of-struct, of-union, not-shared, kind-at}
 use Rattle.nesting.proofs.Tree.{kept-shared}
 use Rattle.nesting.proofs.Sieve.{null-any, valid-bit, bytes-kept, own-length}
 
 -- The climb
 
--- node i keeps the node's rows
-pub record Level (b : List ℕ) (node i : ℕ) : Type 0 where
-  pub inside : i < nodeCount b
-  pub same : (root : List ℕ) → keptRows b root i ≡ keptRows b root node
-  pub long : rows b i ≡ rows b node
-
 pub level-all : (b : List ℕ) (node : ℕ) → node < nodeCount b → Level b node node
 level-all b node h = record { inside = h; same = λ root. refl; long = refl }
 
-pub level-root : {b : List ℕ} {node i : ℕ} → Level b node i → i ≡ 0 → AtRoot b node true
-level-root {b} {node} {i} l e =
-    record {
-      same = λ t root. sym (l .same root) ∙ ap (keptRows b root) e ∙ kept-root b root;
-      long = λ t. sym (l .long) ∙ ap (rows b) e;
-    }
+-- the root is the last
+pub top-root : {b : List ℕ} {node i : ℕ} → Level b node i → i ≡ 0 → Top b node i
+top-root l e = record { level = l; last = λ some. absurd (omega arith) }
 
-pub not-root : (b : List ℕ) (node : ℕ) → AtRoot b node false
-not-root b node = record { same = λ t. absurd (false≢true t); long = λ t. absurd (false≢true t) }
+pub level-root : {b : List ℕ} {node i : ℕ} → Level b node i → AtRoot b node (eqb i 0)
+level-root {b} {node} {i} l =
+    record {
+      same = λ t root. sym (l .same root) ∙ ap (keptRows b root) (eqb-true i 0 t) ∙ kept-root b root;
+      long = λ t. sym (l .long) ∙ ap (rows b) (eqb-true i 0 t);
+    }
 
 module _ {b table parents : List ℕ} (n : Nodes b table parents) {node i : ℕ} (l : Level b node i) (some : 0 < i) where
   is-parent : getD parents i 0 ≡ parent b i
@@ -77,6 +72,14 @@ module _ {b table parents : List ℕ} (n : Nodes b table parents) {node i : ℕ}
 
   pub level-union : getD table (10 * getD parents i 0) 0 ≡ 11 → Level b node (getD parents i 0)
   level-union e = to-parent (of-union b (getD parents i 0) (sym kind-here ∙ e))
+
+  -- neither: the climb ends here
+  pub level-last : (getD table (10 * getD parents i 0) 0 ≡ 10 → ⊥) → (getD table (10 * getD parents i 0) 0 ≡ 11 → ⊥) → Top b node i
+  level-last f g =
+      record {
+        level = l;
+        last = λ _ s. not-shared b (getD parents i 0) (λ e. f (kind-here ∙ e)) (λ e. g (kind-here ∙ e)) (rw is-parent s);
+      }
 
 -- Nulls by words: p picks, q says valid
 
@@ -195,10 +198,6 @@ module _ {b : List ℕ} {node w : ℕ} (s : Sound b) (o : Offsets w b node) (p :
       e ∙ ap (λ (rs : List ℕ). length (join (map (ownBytes w b node) rs))) (sym (ap (chosen p) (sym g) ∙ chosen-gap p (len - at) at (rw g all)))
 
 -- The word loop: x are the picks of 64 slots from i on, v the bits from `first` + i on
-
-pub slot-past : (m : List ℕ) (bits : Bits) (j : ℕ) → bits .len ≤ j → slotOf m bits j ≡ false
-unfolding slotOf
-slot-past m bits j h = upTo-past (bothSet m bits) (bits .len) j h
 
 module _ (p : ℕ → Bool) (s : List ℕ) (first i : ℕ) {x v : ℕ} (ex : x ≡ wordFrom p 64 i) (ev : v ≡ wordFrom (bitIn s) 64 (first + i)) where
   both : bitAnd x v ≡ bitAnd (wordFrom p 64 i) (wordFrom (λ j. bitIn s (first + j)) 64 i)

@@ -6,12 +6,11 @@ use mathlib.Core.Path.{_≡_}
 use lib.ListN.{length}
 use Rattle.format.specs.Bytes.{le, chosen, within}
 use Rattle.format.specs.declared.Kind.the-variants.{Runs}
-use Rattle.format.specs.Node.{tableStart, nodeCount, kind, rows}
-use Rattle.format.specs.Accepted.{Sound}
+use Rattle.format.specs.Node.{tableStart, nodeCount, kind, rows, parent}
+use Rattle.format.specs.Accepted.{Sound, Shares}
 use Rattle.slots.specs.declared.Bits.{Bits}
-use Rattle.slots.specs.Source.{slotOf, Lies}
+use Rattle.slots.specs.Source.{slotOf}
 use Rattle.pack.specs.Tree.{Holds, Parents}
-use Rattle.format.specs.Mask.{picks, maskLength}
 use Rattle.format.specs.Kept.{keptRows}
 
 -- some number of the list lies in [lo, hi)
@@ -55,12 +54,6 @@ pub record AtRuns (b table : List ℕ) (i : ℕ) : Type 0 where
   pub inside : i < nodeCount b
   pub isRuns : kind b i ≡ Runs
 
--- a bit source whose picks are the mask's
-pub record BitsOf (m : List ℕ) (b : Bits) : Type 0 where
-  pub lies : Lies m b
-  pub whole : b .len ≡ maskLength m
-  pub same : picksOf m b ≡ picks m
-
 -- the nodes of an accepted journal: its table and parents as arrays
 pub record Nodes (b table parents : List ℕ) : Type 0 where
   pub sound : Sound b
@@ -71,3 +64,14 @@ pub record Nodes (b table parents : List ℕ) : Type 0 where
 pub record AtRoot (b : List ℕ) (node : ℕ) (t : Bool) : Type 0 where
   pub same : t ≡ true → (root : List ℕ) → keptRows b root node ≡ root
   pub long : t ≡ true → rows b node ≡ rows b 0
+
+-- node t keeps the node's rows, and has as many
+pub record Level (b : List ℕ) (node t : ℕ) : Type 0 where
+  pub inside : t < nodeCount b
+  pub same : (root : List ℕ) → keptRows b root t ≡ keptRows b root node
+  pub long : rows b t ≡ rows b node
+
+-- so it does, and no struct or union is above it
+pub record Top (b : List ℕ) (node t : ℕ) : Type 0 where
+  pub level : Level b node t
+  pub last : 0 < t → Shares (kind b (parent b t)) → ⊥

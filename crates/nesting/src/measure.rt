@@ -6,13 +6,11 @@ ghost use Prim.Native.Nat.{_+_, _*_, _^_, _≤_, _<_, suc};
 ghost use lib.Dec.{eqb};
 ghost use lib.ListN.{length, getD};
 ghost use Rattle.format.specs.Node.{nodeCount, rows};
-ghost use Rattle.format.specs.Mask.{picks, maskLength};
-ghost use Rattle.format.specs.Verdict.{maskVerdict, journalVerdict};
 ghost use Rattle.format.specs.Write.{extract};
 ghost use Rattle.format.specs.Answer.{scratchNeeded};
-ghost use Rattle.format.specs.Accepted.{Sound, SoundMask};
+ghost use Rattle.format.specs.Accepted.{Sound};
 ghost use Rattle.slots.specs.Source.{Lies};
-ghost use Rattle.nesting.specs.Rows.{picksOf, Ready, Counts, Table, BitsOf};
+ghost use Rattle.nesting.specs.Rows.{picksOf, Ready, Counts, Table};
 ghost use Rattle.nesting.specs.Size.{bodyEnd};
 use crate::data::any_null;
 use crate::data::data_length;
@@ -26,26 +24,8 @@ use crate::size::raise;
 use crate::size::second_size;
 use crate::table::RUNS;
 use crate::table::node_count;
-use crate::table::table_of;
 use pack::read::kind_of;
-use pack::tree::parents_of;
 use slots::Bits;
-
-// A mask's slots as a bit source.
-pub fn bits_of(mask: &[u8]) -> Bits
-    requires { ⌜ SoundMask (now mask) ⌝ }
-    ensures { λ b. ⌜ BitsOf (now (mask .entry)) b ⌝ }
-{
-    let start = words::get32(mask, mask.len() - 16) as usize;
-    let validity = words::get32(mask, start + 20);
-    Bits {
-        values_at: words::get32(mask, start + 24) as usize,
-        has_validity: validity != 0xFFFF_FFFF,
-        validity_at: validity as usize,
-        skip: words::get32(mask, start + 12) as usize,
-        len: words::get32(mask, start + 8) as usize,
-    }
-}
 
 // How many rows each node keeps.
 pub fn count_all(
@@ -132,15 +112,19 @@ pub fn body_end(
 }
 
 // The extract's length: body, table and trailer.
-pub fn measure(mask: &[u8], journal: &[u8]) -> usize
-    requires { ⌜ (maskVerdict (now mask) ≡ 0) × (journalVerdict (now journal) ≡ 0) × (maskLength (now mask) ≤ rows (now journal) 0) ⌝ }
-    ensures { λ r. ⌜ r ≡ length (extract (now (journal .entry)) (picks (now (mask .entry)))) ⌝ }
+pub fn measure(
+    mask: &[u8],
+    bits: Bits,
+    journal: &[u8],
+    table: &[u32; 640],
+    parents: &[u32; 64],
+    counts: &[usize; 64],
+) -> usize
+    requires { ⌜ Lies (now mask) bits × (bits .len ≤ rows (now journal) 0) ⌝ }
+    requires { ⌜ Ready (now journal) (picksOf (now mask) bits) (now table) (now parents) (now counts) (nodeCount (now journal)) ⌝ }
+    ensures { λ r. ⌜ r ≡ length (extract (now (journal .entry)) (picksOf (now (mask .entry)) bits)) ⌝ }
 {
-    let bits = bits_of(mask);
-    let table = table_of(journal);
-    let parents = parents_of(journal);
-    let counts = count_all(mask, bits, journal, &table, &parents);
-    let end = body_end(mask, bits, journal, &table, &parents, &counts);
+    let end = body_end(mask, bits, journal, table, parents, counts);
     raise(end) + 40 * node_count(journal) + 16
 }
 

@@ -10,17 +10,17 @@ ghost use Rattle.format.specs.Verdict.{oneOf};
 ghost use Rattle.format.specs.Kept.{ownBytes};
 ghost use Rattle.format.specs.Accepted.{Offsets};
 ghost use Rattle.slots.specs.Source.{Lies, slotOf};
-ghost use Rattle.nesting.specs.Rows.{picksOf, Ready, Nodes, AtRoot};
+ghost use Rattle.nesting.specs.Rows.{picksOf, Ready, Nodes, AtRoot, Top};
 use crate::table::STRUCT;
 use crate::table::UNION;
 use crate::table::number;
 use slots::Bits;
 use slots::Run;
 
-// Whether the node keeps the root's rows.
-pub fn at_root(journal: &[u8], table: &[u32; 640], parents: &[u32; 64], node: usize) -> bool
+// The node whose rows this one keeps: climbed to as long as the parent is a struct or a union.
+pub fn top_of(journal: &[u8], table: &[u32; 640], parents: &[u32; 64], node: usize) -> usize
     requires { ⌜ Nodes (now journal) (now table) (now parents) × (node < nodeCount (now journal)) ⌝ }
-    ensures { λ t. ⌜ AtRoot (now (journal .entry)) node t ⌝ }
+    ensures { λ t. ⌜ Top (now (journal .entry)) node t ⌝ }
 {
     let mut i = node;
     while 0 < i {
@@ -34,9 +34,17 @@ pub fn at_root(journal: &[u8], table: &[u32; 640], parents: &[u32; 64], node: us
             i = p;
             continue;
         }
-        return false;
+        return i;
     }
-    true
+    i
+}
+
+// Whether the node keeps the root's rows.
+pub fn at_root(journal: &[u8], table: &[u32; 640], parents: &[u32; 64], node: usize) -> bool
+    requires { ⌜ Nodes (now journal) (now table) (now parents) × (node < nodeCount (now journal)) ⌝ }
+    ensures { λ t. ⌜ AtRoot (now (journal .entry)) node t ⌝ }
+{
+    top_of(journal, table, parents, node) == 0
 }
 
 // Some picked slot has no validity bit among those from bit `first` on: a word at a time.

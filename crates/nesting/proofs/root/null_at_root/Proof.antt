@@ -7,7 +7,8 @@ use Rattle.format.specs.Bytes.{bitIn}
 use Rattle.format.specs.Slots.{All}
 use Rattle.format.proofs.SlotLaws.{all-none}
 use Rattle.slots.specs.Source.{slotOf}
-use Rattle.nesting.proofs.Rooted.{slot-past, null-here, null-not, null-end}
+use Rattle.slots.proofs.Reading.{slot-past}
+use Rattle.nesting.proofs.Rooted.{null-here, null-not, null-end}
 use Rattle.nesting.proofs.root.null_at_root.Statement.{statement}
 use Rattle.nesting.proofs.root.null_at_root.Tie as tie
 

@@ -1,0 +1,2 @@
+-- Laws of the rows that each node keeps.
+pub mod Tops

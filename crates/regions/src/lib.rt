@@ -1,0 +1,83 @@
+// Which rows each node keeps, as a selection that the column filters take.
+ghost use mathlib.Core.Path.{_≡_};
+ghost use Prim.Native.Nat.{_<_};
+ghost use Rattle.format.specs.Node.{nodeCount};
+ghost use Rattle.nesting.specs.Rows.{picksOf};
+ghost use Rattle.regions.specs.Region.{plainBits, noneOrAll, Given, Tells};
+use nesting::root::top_of;
+use nesting::table::RUNS;
+use predicate::Held;
+use predicate::Selection;
+use slots::Bits;
+
+// A selection of a node's rows; its bits stand in the mask or in scratch.
+pub struct Told {
+    pub sel: Selection,
+    pub bits: Bits,
+    pub in_mask: bool,
+}
+
+// So many rows from byte `at` of a bitmap.
+fn plain_bits(at: usize, len: usize) -> Bits
+    ensures { λ r. ⌜ r ≡ plainBits at len ⌝ }
+{
+    Bits {
+        values_at: at,
+        has_validity: false,
+        validity_at: 0,
+        skip: 0,
+        len,
+    }
+}
+
+// All rows of a carried node, or none: no bits are read.
+fn carried(kept: usize, len: usize) -> Selection
+    ensures { λ r. ⌜ r ≡ noneOrAll kept len ⌝ }
+{
+    if kept == 0 {
+        return Selection::Nothing;
+    }
+    Selection::Everything(len)
+}
+
+// The rows that node i keeps. Struct and union hand on their own; a root's are told by the mask, those of a child of runs by its
+// bitmap in scratch, and a carried child keeps all rows or none.
+pub fn rows_of(
+    mask: &[u8],
+    bits: Bits,
+    sel: Selection,
+    list: &[u32],
+    scratch: &[u8],
+    journal: &[u8],
+    table: &[u32; 640],
+    parents: &[u32; 64],
+    counts: &[usize; 64],
+    places: &[usize; 64],
+    i: usize,
+) -> Told
+    requires { ⌜ Given (now mask) bits sel (now list) (now scratch) (now journal) (now table) (now parents) (now counts) (now places) ⌝ }
+    requires { ⌜ i < nodeCount (now journal) ⌝ }
+    ensures { λ r. ⌜ Tells (now (journal .entry)) i (picksOf (now (mask .entry)) bits) (now (mask .entry)) (now (list .entry)) (now (scratch .entry)) r ⌝ }
+{
+    let t = top_of(journal, table, parents, i);
+    if t == 0 {
+        return Told {
+            sel,
+            bits,
+            in_mask: true,
+        };
+    }
+    let len = table[10 * t + 2] as usize;
+    if table[10 * (parents[t] as usize)] == RUNS {
+        return Told {
+            sel: Selection::Rows(Held::Lazy),
+            bits: plain_bits(places[t], len),
+            in_mask: false,
+        };
+    }
+    Told {
+        sel: carried(counts[t], len),
+        bits: plain_bits(0, len),
+        in_mask: true,
+    }
+}
