@@ -1,6 +1,5 @@
 /*
  * The C entry points of the proved filter. Link target/staticlib/libcapi.a ('rt staticlib capi').
- * The library has check, check_mask and prepare so far; filter is declared as it will be.
  *
  * Packs, masks, routes, extracts and refusals are those of document 01. A slice is a pointer and then its length, in elements.
  * Pointers are not null and aligned for their element, also where the length is 0. What is lent to be written (list, scratch,

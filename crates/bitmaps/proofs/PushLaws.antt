@@ -14,29 +14,34 @@ use Rattle.format.specs.Put.{Wrote}
 use Rattle.format.proofs.Measure.{length-numbers, length-toLe}
 use Rattle.format.proofs.WordLaws.{length-low}
 use Rattle.format.proofs.Put.{then, named, none, same-size}
-use Rattle.format.proofs.PackedLaws.{numbers-one, length-spare, length-words, spare-more}
+use Rattle.format.proofs.PackedLaws.{numbers-one, length-spare, length-words}
 use Rattle.format.proofs.Numbers.{numbers-append}
-use Rattle.bits.specs.Pack.{Packed, waiting, packing, left, packerOf}
+use Rattle.bits.specs.Pack.{Packed, waiting, packing}
 use Rattle.bits.specs.declared.Packing.{Packing}
-use Rattle.bits.specs.declared.Packing.the-variants.{Partial, Full}
+use Rattle.bits.specs.declared.Pushed.{Pushed}
+use Rattle.bits.specs.declared.Pushed.the-variants.{Word, Nothing}
 use Rattle.bits.specs.declared.Packer.{Packer}
 use Rattle.bits.proofs.PackLaws.{packing-partial, packing-full, partial-words, full-words, packing-packed, flushed}
 use Rattle.bitmaps.specs.declared.Bitmap.{Bitmap}
-use Rattle.bitmaps.specs.Push.{handedWords, Packs, Pushes, Adds}
+use Rattle.bitmaps.specs.Push.{wordsOf, handedWords, Packs, Pushes, Adds}
 
 -- ---- one push: its two answers
 
-module _ {ts : List Bool} {old : List ℕ} {from : Bitmap} where
-  pub pushes-partial : {q : Packer} → packing ts ≡ Partial q → Pushes ts old from old (record { here = from .here; packer = q })
-  unfolding numbers join
-  pushes-partial e = record { wrote = none (ap (λ (x : Packing). numbers 8 (handedWords x)) e) refl; leaves = sym (ap left e) }
+module _ (ts : List Bool) {k : Packing} (e : k ≡ packing ts) where
+  handed-is : {x : Pushed} → k .word ≡ x → numbers 8 (handedWords (packing ts)) ≡ numbers 8 (wordsOf x)
+  handed-is q = ap (λ (k : Packing). numbers 8 (handedWords k)) (sym e) ∙ ap (λ (x : Pushed). numbers 8 (wordsOf x)) q
 
-  pub pushes-full : {w next : ℕ} {q : Packer} {new : List ℕ} → packing ts ≡ Full w q → Wrote old (from .here) (toLe 8 w) new next
-      → Pushes ts old from new (record { here = next; packer = q })
-  pushes-full {w} e h = record {
-    wrote = named h (sym (ap (λ (x : Packing). numbers 8 (handedWords x)) e ∙ numbers-one 8 w));
-    leaves = sym (ap left e);
-  }
+  pub pushes-partial : {old : List ℕ} {from : Bitmap} → k .word ≡ Nothing → Pushes ts old from old (record { here = from .here; packer = k .packer })
+  unfolding numbers join
+  pushes-partial q = record { wrote = none (handed-is q) refl; leaves = ap (λ (k : Packing). k .packer) e }
+
+  pub pushes-full : {old : List ℕ} {from : Bitmap} {w next : ℕ} {new : List ℕ} → k .word ≡ Word w → Wrote old (from .here) (toLe 8 w) new next
+      → Pushes ts old from new (record { here = next; packer = k .packer })
+  pushes-full {w = w} q h = record { wrote = named h (sym (handed-is q ∙ numbers-one 8 w)); leaves = ap (λ (k : Packing). k .packer) e }
+
+  -- a full word takes 8 bytes
+  pub full-size : {w : ℕ} → k .word ≡ Word w → length (numbers 8 (handedWords (packing ts))) ≡ 8
+  full-size {w} q = ap length (handed-is q) ∙ length-numbers 8 (w ∷ [])
 
 -- ---- pushes one after another
 
@@ -50,7 +55,7 @@ module _ {ts : List Bool} {old : List ℕ} {at : ℕ} {mid : List ℕ} {from : B
   pub packs-more : {vs : List Bool} {new : List ℕ} {to : Bitmap} (us : List Bool) → vs ≡ spare ts ++ us → length us ≤ 64
       → Pushes vs mid from new to → Packs (ts ++ us) old at new to
   unfolding numbers join
-  packs-more {vs} {new} {to} us e l h = go (packing (spare ts ++ us)) refl
+  packs-more {vs} {new} {to} us e l h = go (packing (spare ts ++ us) .word) refl
     where
       step : Pushes (spare ts ++ us) mid from new to
       step = rw e at h
@@ -61,21 +66,19 @@ module _ {ts : List Bool} {old : List ℕ} {at : ℕ} {mid : List ℕ} {from : B
       ok : Packed (to .packer)
       ok = rw (step .leaves) (packing-packed (spare ts ++ us) long)
 
-      go : (x : Packing) → packing (spare ts ++ us) ≡ x → Packs (ts ++ us) old at new to
-      go (Partial q) t =
-          let (words, waits) = partial-words ts us q t in
-          let left′ : to .packer ≡ q = step .leaves ∙ ap left t in
+      go : (x : Pushed) → packing (spare ts ++ us) .word ≡ x → Packs (ts ++ us) old at new to
+      go Nothing t =
+          let (words, waits) = partial-words ts us t in
           record {
             wrote = named (then (p .wrote) (step .wrote)) (rw (t, words) (append-nil (numbers 8 (fullWords ts))));
-            waits = rw left′ waits;
+            waits = rw (step .leaves) waits;
             packed = ok;
           }
-      go (Full w q) t =
-          let (words, waits) = full-words ts us w q l t in
-          let left′ : to .packer ≡ q = step .leaves ∙ ap left t in
+      go (Word w) t =
+          let (words, waits) = full-words ts us w l t in
           record {
             wrote = named (then (p .wrote) (step .wrote)) (rw (t, words) (sym (numbers-append 8 (fullWords ts) (w ∷ []))));
-            waits = rw left′ waits;
+            waits = rw (step .leaves) waits;
             packed = ok;
           }
 
@@ -83,7 +86,7 @@ module _ {ts : List Bool} {old : List ℕ} {at : ℕ} {mid : List ℕ} {from : B
   pub push-room : (vs us : List Bool) → vs ≡ spare ts ++ us → length us ≤ 64 → at + bytesFor (length ts + length us) ≤ length old
       → from .here + length (numbers 8 (handedWords (packing vs))) ≤ length mid
   unfolding bytesFor
-  push-room vs us e l fit = rw e (go (packing (spare ts ++ us)) refl)
+  push-room vs us e l fit = rw e (go (packing (spare ts ++ us) .word) refl)
     where
       here : from .here ≡ at + 8 * (length ts / 64)
       here = p .wrote .place ∙ ap (at +_) (length-numbers 8 (fullWords ts) ∙ ap (8 *_) (length-words ts))
@@ -94,10 +97,10 @@ module _ {ts : List Bool} {old : List ℕ} {at : ℕ} {mid : List ℕ} {from : B
       all : length (fullWords (ts ++ us)) ≡ (length ts + length us) / 64
       all = length-words (ts ++ us) ∙ ap (_/ 64) (length-append ts us)
 
-      go : (x : Packing) → packing (spare ts ++ us) ≡ x → from .here + length (numbers 8 (handedWords (packing (spare ts ++ us)))) ≤ length mid
-      go (Partial q) t = rw (t, length-numbers) (omega (arith, here, size))
-      go (Full w q) t =
-          let more = ap length (full-words ts us w q l t .0) ∙ length-append (fullWords ts) (w ∷ []) ∙ ap (_+ 1) (length-words ts) in
+      go : (x : Pushed) → packing (spare ts ++ us) .word ≡ x → from .here + length (numbers 8 (handedWords (packing (spare ts ++ us)))) ≤ length mid
+      go Nothing t = rw (t, length-numbers) (omega (arith, here, size))
+      go (Word w) t =
+          let more = ap length (full-words ts us w l t .0) ∙ length-append (fullWords ts) (w ∷ []) ∙ ap (_+ 1) (length-words ts) in
           rw (t, length-numbers) (omega (arith, here, size, all, more))
 
   -- where the bitmap stands, by how many bits were pushed
@@ -137,7 +140,7 @@ handed-size vs l =
     (λ s. let long : 64 ≤ length vs = omega arith in rw (packing-full vs long, length-append, length-toLe) (omega arith))
 
 -- and how many bits it leaves waiting
-left-size : (vs : List Bool) → length vs < 128 → left (packing vs) .filled ≡ length vs % 64
+left-size : (vs : List Bool) → length vs < 128 → packing vs .packer .filled ≡ length vs % 64
 left-size vs l =
     dite (decLt (length vs) 64)
     (λ (s : length vs < 64). rw (packing-partial vs s) (omega arith))

@@ -8,18 +8,22 @@ use Rattle.format.specs.Bytes.{bitIn}
 use Rattle.format.specs.Write.{numbers}
 use Rattle.format.specs.Words.{fullWords, spare}
 use Rattle.format.specs.Put.{Wrote}
-use Rattle.bits.specs.Pack.{Packed, waiting, packing, left}
+use Rattle.bits.specs.Pack.{Packed, waiting, packing}
 use Rattle.bits.specs.declared.Packing.{Packing}
-use Rattle.bits.specs.declared.Packing.the-variants.{Partial, Full}
+use Rattle.bits.specs.declared.Pushed.{Pushed}
+use Rattle.bits.specs.declared.Pushed.the-variants as Pushed
 use Rattle.predicate.specs.declared.Held.the-variants.{Stored, Lazy}
 use Rattle.predicate.specs.declared.Selection.{Selection}
 use Rattle.predicate.specs.declared.Selection.the-variants.{Nothing, Everything, Runs, Rows}
 use Rattle.bitmaps.specs.declared.Bitmap.{Bitmap}
 
 -- the words handed back, none or one
+abbrev pub wordsOf : Pushed → List ℕ
+wordsOf Pushed.Nothing = []
+wordsOf (Pushed.Word w) = w ∷ []
+
 abbrev pub handedWords : Packing → List ℕ
-handedWords (Partial p) = []
-handedWords (Full w p) = w ∷ []
+handedWords k = wordsOf (k .word)
 
 -- the bits ts are written from `at` on, but for those that wait
 pub record Packs (ts : List Bool) (old : List ℕ) (at : ℕ) (new : List ℕ) (to : Bitmap) : Type 0 where
@@ -30,7 +34,7 @@ pub record Packs (ts : List Bool) (old : List ℕ) (at : ℕ) (new : List ℕ) (
 -- a step: the bits ts, which begin with those that wait, are packed; a full word is written
 pub record Pushes (ts : List Bool) (old : List ℕ) (from : Bitmap) (new : List ℕ) (to : Bitmap) : Type 0 where
   pub wrote : Wrote old (from .here) (numbers 8 (handedWords (packing ts))) new (to .here)
-  pub leaves : to .packer ≡ left (packing ts)
+  pub leaves : to .packer ≡ packing ts .packer
 
 -- several steps: the bits us are added behind all that was packed before; where that leaves the bitmap
 pub record Adds (us : List Bool) (old : List ℕ) (from : Bitmap) (new : List ℕ) (to : Bitmap) : Type 0 where

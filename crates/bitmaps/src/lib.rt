@@ -14,7 +14,7 @@ ghost use Rattle.format.specs.Write.{numbers};
 ghost use Rattle.bits.specs.Pack.{Packed, pushed, packing};
 ghost use Rattle.bitmaps.specs.Push.{handedWords, Pushes, Adds, bitFrom, storedRows};
 use bits::Packer;
-use bits::Packing;
+use bits::Pushed;
 use predicate::Block;
 use predicate::Cursor;
 use predicate::Held;
@@ -35,10 +35,13 @@ fn push(out: &mut [u8], to: Bitmap, value: u64, mask: u64) -> Bitmap
 {
     let here = to.here;
     let packer = to.packer;
-    match bits::packing_step(packer, value, mask) {
-        Packing::Partial(left) => Bitmap { here, packer: left },
-        Packing::Full(word, left) => {
-            let next = words::put64(out, here, word);
+    let step = bits::pack_word(packer, value, mask);
+    let left = step.packer;
+    let word = step.word;
+    match word {
+        Pushed::Nothing => Bitmap { here, packer: left },
+        Pushed::Word(w) => {
+            let next = words::put64(out, here, w);
             Bitmap {
                 here: next,
                 packer: left,

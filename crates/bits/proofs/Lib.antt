@@ -1,3 +1,6 @@
--- Laws of the loop of `compress` and of the packer.
+-- Laws of the loop of `compress` and of the packer; of a local that is lent for a call, and of a packer that is lent to `push`.
 pub mod PackLaws
 pub mod CompressLaws
+pub mod Lent
+pub mod PackingLaws
+pub mod PushLent

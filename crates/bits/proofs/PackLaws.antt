@@ -19,16 +19,17 @@ use Rattle.format.specs.Write.{numbers}
 use Rattle.format.proofs.SlotLaws.{slots-up}
 use Rattle.format.proofs.WordLaws.{length-low, take-low, low-word, word-low, word-lt, word-mod, word-append, word-take, word-drop, or-shl, shifted-out, length-gather, gather-ones, gather-both, low-slots}
 use Rattle.format.proofs.PackedLaws.{words-more, spare-more, words-none, words-one, words-append, spare-append, spare-all, length-spare, packed-word, packed-words}
-use Rattle.bits.specs.Pack.{Packed, waiting, pushed, packerOf, packing, handed, left}
+use Rattle.bits.specs.Pack.{Packed, waiting, pushed, packerOf, partial, full, packing, handed}
 use Rattle.bits.specs.declared.Packer.{Packer}
-use Rattle.bits.specs.declared.Packing.the-variants.{Partial, Full}
+use Rattle.bits.specs.declared.Packing.{Packing}
+use Rattle.bits.specs.declared.Pushed.the-variants.{Word, Nothing}
 
 -- the two cases
-pub packing-partial : (ts : List Bool) → length ts < 64 → packing ts ≡ Partial (packerOf ts)
+pub packing-partial : (ts : List Bool) → length ts < 64 → packing ts ≡ partial (packerOf ts)
 unfolding packing
 packing-partial ts h = rw (lt-ltb (length ts) 64 h)
 
-pub packing-full : (ts : List Bool) → 64 ≤ length ts → packing ts ≡ Full (wordOf (take 64 ts)) (packerOf (drop 64 ts))
+pub packing-full : (ts : List Bool) → 64 ≤ length ts → packing ts ≡ full (wordOf (take 64 ts)) (packerOf (drop 64 ts))
 unfolding packing
 packing-full ts h = rw (le-ltb (length ts) 64 h)
 
@@ -36,7 +37,7 @@ fills : (n : ℕ) → (n < 64) ⊎ (64 ≤ n)
 fills n = ⊎-elim (λ (e : 64 - n ≡ 0). inr (omega arith)) (λ (e : 0 < 64 - n). inl (omega arith)) (eq-zero-or-pos (64 - n))
 
 -- what is handed out, and what waits, is what was there
-pub packing-keeps : (ts : List Bool) → handed (packing ts) ++ waiting (left (packing ts)) ≡ ts
+pub packing-keeps : (ts : List Bool) → handed (packing ts .word) ++ waiting (packing ts .packer) ≡ ts
 packing-keeps ts =
     ⊎-elim (λ (h : length ts < 64). rw (packing-partial ts h) (low-word ts))
     (λ (h : 64 ≤ length ts).
@@ -45,7 +46,7 @@ packing-keeps ts =
     (fills (length ts))
 
 -- a packer takes up to 64 bits at once
-pub packing-packed : (ts : List Bool) → length ts < 128 → Packed (left (packing ts))
+pub packing-packed : (ts : List Bool) → length ts < 128 → Packed (packing ts .packer)
 packing-packed ts l =
     ⊎-elim (λ (h : length ts < 64). rw (packing-partial ts h) (record { room = h; clear = word-lt ts }))
     (λ (h : 64 ≤ length ts). rw (packing-full ts h) (record { room = simp length-drop (omega arith); clear = word-lt (drop 64 ts) }))
@@ -71,14 +72,14 @@ module _ (p : Packer) (ok : Packed p) (value mask : ℕ) (fits : mask < 2 ^ 64) 
       ∙ rw word-pushed (shifted-out (p .filled) (63 - p .filled) (compress 64 value mask) (p .current) (ok .clear)))
 
   pub step-partial : p .filled + ones mask < 64
-      → Partial (record { current = bitOr (p .current) ((compress 64 value mask * 2 ^ p .filled) % 2 ^ 64); filled = p .filled + ones mask })
+      → partial (record { current = bitOr (p .current) ((compress 64 value mask * 2 ^ p .filled) % 2 ^ 64); filled = p .filled + ones mask })
       ≡ packing (pushed p value mask)
   step-partial h =
       let short : length (pushed p value mask) < 64 = omega (arith, length-pushed) in
       rw (packing-partial _ short, word, word-mod 64 (pushed p value mask) (omega arith), length-pushed)
 
   pub step-full : 64 ≤ p .filled + ones mask
-      → Full (bitOr (p .current) ((compress 64 value mask * 2 ^ p .filled) % 2 ^ 64))
+      → full (bitOr (p .current) ((compress 64 value mask * 2 ^ p .filled) % 2 ^ 64))
       (record { current = compress 64 value mask / 2 / 2 ^ (63 - p .filled); filled = p .filled + ones mask - 64 })
       ≡ packing (pushed p value mask)
   step-full h =
@@ -98,38 +99,38 @@ pushed-slots p q i mask n e l = pushed-run p (wordFrom q 64 i) mask n e l ∙ ap
 
 -- ---- bits packed one after another: the full words of all bits so far were handed out, and their spare bits wait
 
--- which case it is tells how many bits there are
-partial-short : (ts : List Bool) (q : Packer) → packing ts ≡ Partial q → length ts < 64
-partial-short ts q e =
-    ⊎-elim (λ h. h) (λ (h : 64 ≤ length ts). let z : _≡_ {A = ℕ} 0 1 = cc (packing-full ts h) in absurd (omega arith)) (fills (length ts))
+-- what is handed back tells how many bits there are
+partial-short : (ts : List Bool) → packing ts .word ≡ Nothing → length ts < 64
+partial-short ts e =
+    ⊎-elim (λ h. h) (λ (h : 64 ≤ length ts). let z : _≡_ {A = ℕ} 0 1 = cc (ap (λ (k : Packing). k .word) (packing-full ts h)) in absurd (omega arith)) (fills (length ts))
 
-full-long : (ts : List Bool) (w : ℕ) (q : Packer) → packing ts ≡ Full w q → 64 ≤ length ts
-full-long ts w q e =
-    ⊎-elim (λ (h : length ts < 64). let z : _≡_ {A = ℕ} 0 1 = cc (packing-partial ts h) in absurd (omega arith)) (λ h. h) (fills (length ts))
+full-long : (ts : List Bool) (w : ℕ) → packing ts .word ≡ Word w → 64 ≤ length ts
+full-long ts w e =
+    ⊎-elim (λ (h : length ts < 64). let z : _≡_ {A = ℕ} 0 1 = cc (ap (λ (k : Packing). k .word) (packing-partial ts h)) in absurd (omega arith)) (λ h. h) (fills (length ts))
 
 module _ (ts us : List Bool) where
   -- the bits us came and filled no word
-  pub partial-words : (q : Packer) → packing (spare ts ++ us) ≡ Partial q → (fullWords (ts ++ us) ≡ fullWords ts) × (waiting q ≡ spare (ts ++ us))
-  partial-words q e =
-      let short = partial-short (spare ts ++ us) q e in
-      let kept : waiting q ≡ spare ts ++ us = rw e at (packing-keeps (spare ts ++ us)) in
+  pub partial-words : packing (spare ts ++ us) .word ≡ Nothing → (fullWords (ts ++ us) ≡ fullWords ts) × (waiting (packing (spare ts ++ us) .packer) ≡ spare (ts ++ us))
+  partial-words e =
+      let short = partial-short (spare ts ++ us) e in
+      let kept : waiting (packing (spare ts ++ us) .packer) ≡ spare ts ++ us = rw e at (packing-keeps (spare ts ++ us)) in
       (rw (words-more ts us, words-none (spare ts ++ us) short) (append-nil (fullWords ts)), rw (spare-more ts us, spare-all (spare ts ++ us) short) kept)
 
   -- or they filled one
-  pub full-words : (w : ℕ) (q : Packer) → length us ≤ 64 → packing (spare ts ++ us) ≡ Full w q
-      → (fullWords (ts ++ us) ≡ fullWords ts ++ (w ∷ [])) × (waiting q ≡ spare (ts ++ us))
-  full-words w q l e =
+  pub full-words : (w : ℕ) → length us ≤ 64 → packing (spare ts ++ us) .word ≡ Word w
+      → (fullWords (ts ++ us) ≡ fullWords ts ++ (w ∷ [])) × (waiting (packing (spare ts ++ us) .packer) ≡ spare (ts ++ us))
+  full-words w l e =
       let all = spare ts ++ us in
-      let long = full-long all w q e in
+      let long = full-long all w e in
+      let made = packing-full all long in
       let first = length-take-le 64 all long in
       let rest : length (drop 64 all) < 64 = simp (length-drop, length-append, length-spare) (omega arith) in
-      let word : wordOf (take 64 all) ≡ w = cc (packing-full all long) in
-      let behind : packerOf (drop 64 all) ≡ q = cc (packing-full all long) in
+      let word : wordOf (take 64 all) ≡ w = cc (ap (λ (k : Packing). k .word) made) in
       let parts = take-append-drop 64 all in
       let words : fullWords all ≡ w ∷ [] =
       ap fullWords (sym parts) ∙ words-append 1 (take 64 all) (drop 64 all) first ∙ rw (words-one (take 64 all) first, words-none (drop 64 all) rest, word) in
       let after : spare all ≡ drop 64 all = ap spare (sym parts) ∙ spare-append 1 (take 64 all) (drop 64 all) first ∙ spare-all (drop 64 all) rest in
-      (rw (words-more ts us, words), rw (spare-more ts us, after, ← behind) (low-word (drop 64 all)))
+      (rw (words-more ts us, words), rw (spare-more ts us, after, made) (low-word (drop 64 all)))
 
 -- what waits at the end is written as bytes, spare bits 0
 pub flushed : (ts : List Bool) (p : Packer) → Packed p → waiting p ≡ spare ts → packed ts ≡ numbers 8 (fullWords ts) ++ toLe (bytesFor (p .filled)) (p .current)

@@ -7,7 +7,8 @@ use lib.ListN.{length, take, drop}
 use Rattle.format.specs.Words.{lowBits, wordOf, gather}
 use Rattle.bits.specs.declared.Packer.{Packer}
 use Rattle.bits.specs.declared.Packing.{Packing}
-use Rattle.bits.specs.declared.Packing.the-variants.{Partial, Full}
+use Rattle.bits.specs.declared.Pushed.{Pushed}
+use Rattle.bits.specs.declared.Pushed.the-variants.{Word, Nothing}
 
 -- the bits that wait: `filled` of them
 abbrev pub waiting : Packer → List Bool
@@ -26,15 +27,18 @@ pushed p value mask = waiting p ++ gather (lowBits 64 mask) (lowBits 64 value)
 abbrev pub packerOf : List Bool → Packer
 packerOf ts = record { current = wordOf ts; filled = length ts }
 
+-- no word is full yet, or one is handed back
+abbrev pub partial : Packer → Packing
+partial p = record { packer = p; word = Nothing }
+
+abbrev pub full : ℕ → Packer → Packing
+full w p = record { packer = p; word = Word w }
+
 -- fewer than 64 bits all wait; else the first 64 are handed back as a word, and the others wait
 unfoldable pub packing : List Bool → Packing
-packing ts = cond (ltb (length ts) 64) (Partial (packerOf ts)) (Full (wordOf (take 64 ts)) (packerOf (drop 64 ts)))
+packing ts = cond (ltb (length ts) 64) (partial (packerOf ts)) (full (wordOf (take 64 ts)) (packerOf (drop 64 ts)))
 
--- the bits handed back, and the packer that is left
-abbrev pub handed : Packing → List Bool
-handed (Partial p) = []
-handed (Full w p) = lowBits 64 w
-
-abbrev pub left : Packing → Packer
-left (Partial p) = p
-left (Full w p) = p
+-- the bits handed back
+abbrev pub handed : Pushed → List Bool
+handed Nothing = []
+handed (Word w) = lowBits 64 w

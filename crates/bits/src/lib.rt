@@ -43,10 +43,16 @@ pub struct Packer {
     pub filled: u32,
 }
 
-// What bits that were added give: the packer, after a full word if there is one.
-pub enum Packing {
-    Partial(Packer),
-    Full(u64, Packer),
+// What a push hands back: the word that it filled, or nothing yet.
+pub enum Pushed {
+    Word(u64),
+    Nothing,
+}
+
+// The packer after bits were added, and what is handed back.
+pub struct Packing {
+    pub packer: Packer,
+    pub word: Pushed,
 }
 
 // Adds the bits of value at the set bits of mask behind those that wait.
@@ -59,18 +65,44 @@ pub fn packing_step(packer: Packer, value: u64, mask: u64) -> Packing
     let current = packer.current | (bits << filled);
     let total = filled + u64::count_ones(mask);
     if total < 64 {
-        Packing::Partial(Packer {
-            current,
-            filled: total,
-        })
+        Packing {
+            packer: Packer {
+                current,
+                filled: total,
+            },
+            word: Pushed::Nothing,
+        }
     } else {
         // bits >> (64 - filled), written so that filled == 0 shifts everything out.
-        Packing::Full(
-            current,
-            Packer {
+        Packing {
+            packer: Packer {
                 current: (bits >> 1) >> (63 - filled),
                 filled: total - 64,
             },
-        )
+            word: Pushed::Word(current),
+        }
     }
+}
+
+impl Packer {
+    // Adds the bits of value at the set bits of mask behind those that wait, and hands back the word that they fill.
+    pub fn push(&mut self, value: u64, mask: u64) -> Pushed
+        requires { ⌜ Packed (now self) ⌝ }
+        ensures { λ r. ⌜ (now (self .exit) ≡ packing (pushed (now (self .entry)) value mask) .packer)
+            × (r ≡ packing (pushed (now (self .entry)) value mask) .word) ⌝ }
+    {
+        let step = packing_step(*self, value, mask);
+        *self = step.packer;
+        step.word
+    }
+}
+
+// `push` for a caller that has the packer by value: the packer is lent here, so that the caller's proof is not by hand.
+pub fn pack_word(packer: Packer, value: u64, mask: u64) -> Packing
+    requires { ⌜ Packed packer ⌝ }
+    ensures { λ r. ⌜ r ≡ packing (pushed packer value mask) ⌝ }
+{
+    let mut held = packer;
+    let word = held.push(value, mask);
+    Packing { packer: held, word }
 }

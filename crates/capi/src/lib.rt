@@ -1,8 +1,9 @@
 // The C entry points: include/wurtziteloom.h says what each argument and answer is. None requires anything of its caller.
 ghost use mathlib.Core.Path.{_≡_};
-ghost use Rattle.format.specs.Answer.{preparing, statedIf};
+ghost use Rattle.format.specs.Answer.{callOf, preparing, statedIf};
 ghost use Rattle.format.specs.Verdict.{journalVerdict, maskVerdict};
-ghost use Rattle.capi.specs.Numbers.{packNumber, inNumbers, slipOf, Entered};
+ghost use Rattle.capi.specs.Numbers.{packNumber, inNumbers, slipOf, Entered, answerNumbers, refusalNumber, Called};
+use format::Answer;
 use format::Pack;
 use format::Prepared;
 
@@ -71,4 +72,55 @@ pub extern "C" fn prepare(
     let prepared = predicate::prepare(mask, stated, count, asked, list);
     *answer = in_numbers(prepared);
     slip_of(prepared)
+}
+
+// The answer of a whole call as four numbers.
+fn answer_numbers(told: Answer) -> [u64; 4]
+    ensures { λ r. ⌜ r ≡ answerNumbers told ⌝ }
+{
+    match told {
+        Answer::Done {
+            kept,
+            slots,
+            route,
+            bytes,
+        } => [kept, slots, route.number(), bytes],
+        Answer::Refused { number, pack } => [number, pack_number(pack), 0, 0],
+    }
+}
+
+// The number of the refusal, 0 if there is none.
+fn refusal_number(told: Answer) -> u64
+    ensures { λ r. ⌜ r ≡ refusalNumber told ⌝ }
+{
+    match told {
+        Answer::Done {
+            kept: _,
+            slots: _,
+            route: _,
+            bytes: _,
+        } => 0,
+        Answer::Refused { number, pack: _ } => number,
+    }
+}
+
+// The whole call: 0 with the extract in the output, its counts and its route; or the refusal's number, and output, list and scratch as they were.
+#[no_mangle]
+pub extern "C" fn filter(
+    mask: &[u8],
+    journal: &[u8],
+    stated: bool,
+    count: u64,
+    asked: bool,
+    list: &mut [u32],
+    scratch: &mut [u8],
+    output: &mut [u8],
+    answer: &mut [u64; 4],
+) -> u64
+    ensures { λ r. ⌜ Called (callOf (now (mask .entry)) (now (journal .entry)) (statedIf stated count) asked (now (list .entry)) (now (scratch .entry)) (now (output .entry)))
+        r (now (answer .exit)) (now (output .exit)) (now (list .exit)) (now (scratch .exit)) ⌝ }
+{
+    let told = filter::filter(mask, journal, stated, count, asked, list, scratch, output);
+    *answer = answer_numbers(told);
+    refusal_number(told)
 }

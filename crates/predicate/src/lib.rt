@@ -177,12 +177,14 @@ fn store_runs(s: &[u8], b: Bits, list: &mut [u32]) -> usize
     let mut here = 0;
     let mut place = 0;
     loop {
-        match slots::next_run(s, b, place) {
+        let step = slices::read_run(s, b, place);
+        let run = step.run;
+        match run {
             Run::Span(a, e) => {
                 list[here] = a as u32;
                 list[here + 1] = e as u32;
                 here += 2;
-                place = e;
+                place = step.at;
             }
             Run::End => break,
         }
@@ -199,7 +201,7 @@ pub fn list_entries(s: &[u8], b: Bits, route: Route, kept: usize) -> usize
     match route {
         Route::None => 0,
         Route::All => 0,
-        Route::Slices => 2 * slots::count_runs(s, b),
+        Route::Slices => 2 * slices::count_runs(s, b),
         Route::Indices => kept,
     }
 }

@@ -238,25 +238,6 @@ pub fn next_run(s: &[u8], b: Bits, from: usize) -> Run
     if a < end { Run::Span(a, end) } else { Run::End }
 }
 
-// How many maximal runs of picked slots there are.
-pub fn count_runs(s: &[u8], b: Bits) -> usize
-    requires { ⌜ Lies (now s) b ⌝ }
-    ensures { λ r. ⌜ r ≡ length (runsFrom (slotOf (now (s .entry)) b) (b .len) 0) ⌝ }
-{
-    let mut n: usize = 0;
-    let mut at: usize = 0;
-    loop {
-        match next_run(s, b, at) {
-            Run::Span(_, e) => {
-                n += 1;
-                at = e;
-            }
-            Run::End => break,
-        }
-    }
-    n
-}
-
 // The first picked slot of [from, end), or end where there is none. No word past end's is looked at.
 pub fn next_row(s: &[u8], b: Bits, from: usize, end: usize) -> usize
     requires { ⌜ Lies (now s) b ⌝ }

@@ -1,0 +1,12 @@
+-- `filter::too_long` meets its contract. Assumes nothing.
+use mathlib.Core.Path.{refl}
+use Rattle.format.specs.Answer.{outputShort}
+use Rattle.filter.proofs.too_long.Statement.{statement}
+use Rattle.filter.proofs.too_long.Tie as tie
+
+returns : tie.Need-returns
+unfolding outputShort
+returns c = refl
+
+pub too-long-spec : {M : Type 1} → statement M
+too-long-spec = tie.close (tie.spec returns)
