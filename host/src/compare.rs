@@ -143,11 +143,19 @@ pub fn needed(mask: &[u8], journal: &[u8]) -> (usize, usize, usize) {
     (picks.entries().len(), model::scratch_needed(&journal), output)
 }
 
-/// The port on two packs, in calls that suffice exactly, that have room to spare, and that are short somewhere or state a wrong
-/// count. Gives the answers.
-pub fn with_port(port: &dyn Port, r: &mut Rng, mask: &[u8], journal: &[u8]) -> Result<Vec<Answer>, String> {
-    verdicts(port, mask)?;
-    verdicts(port, journal)?;
+/// What a call lends and states, apart from its packs.
+#[derive(Debug, Clone, Copy)]
+pub struct Terms {
+    pub list: usize,
+    pub scratch: usize,
+    pub output: usize,
+    pub stated: Option<u64>,
+    pub asked: bool,
+}
+
+/// Calls on two packs: one that suffices exactly, two that have room to spare, and one that is short somewhere or states a wrong
+/// count.
+pub fn terms(r: &mut Rng, mask: &[u8], journal: &[u8]) -> [Terms; 4] {
     let count = if model::check_mask(mask) == 0 { Picks::of(mask).picked.len() as u64 } else { r.next() };
     let wrong = match r.below(6) {
         0 => count.wrapping_add(1),
@@ -171,8 +179,15 @@ pub fn with_port(port: &dyn Port, r: &mut Rng, mask: &[u8], journal: &[u8]) -> R
         3 => (need.0, need.1, short(r, need.2), None, r.percent(50)),
         _ => (spare(r, need.0), spare(r, need.1), spare(r, need.2), Some(wrong), true),
     };
+    [exact, roomy, stored, faulty].map(|(list, scratch, output, stated, asked)| Terms { list, scratch, output, stated, asked })
+}
+
+/// The port on two packs, in each of the calls above. Gives the answers.
+pub fn with_port(port: &dyn Port, r: &mut Rng, mask: &[u8], journal: &[u8]) -> Result<Vec<Answer>, String> {
+    verdicts(port, mask)?;
+    verdicts(port, journal)?;
     let mut answers = vec![];
-    for (list, scratch, output, stated, asked) in [exact, roomy, stored, faulty] {
+    for Terms { list, scratch, output, stated, asked } in terms(r, mask, journal) {
         let list: Vec<u32> = (0..list).map(|_| r.next() as u32).collect();
         let (scratch, output) = (r.bytes(scratch), r.bytes(output));
         let call_of = Call { mask, journal, stated, asked, list: &list, scratch: &scratch, output: &output };
@@ -182,13 +197,14 @@ pub fn with_port(port: &dyn Port, r: &mut Rng, mask: &[u8], journal: &[u8]) -> R
     Ok(answers)
 }
 
-/// One call of the port with every buffer exactly long enough, the list stored or not.
+/// Two calls of the port with every buffer exactly long enough: the list not stored, and stored.
 pub fn exact(port: &dyn Port, r: &mut Rng, mask: &[u8], journal: &[u8]) -> Result<Answer, String> {
     let need = needed(mask, journal);
     let list: Vec<u32> = (0..need.0).map(|_| r.next() as u32).collect();
     let (scratch, output) = (r.bytes(need.1), r.bytes(need.2));
-    let asked = r.percent(50);
-    call(port, &Call { mask, journal, stated: None, asked, list: &list, scratch: &scratch, output: &output })
+    let lazy = Call { mask, journal, stated: None, asked: false, list: &list, scratch: &scratch, output: &output };
+    call(port, &lazy)?;
+    call(port, &Call { asked: true, ..lazy })
 }
 
 /// The model on a pair: accepted, and one extract. filter.rs on both.
@@ -199,8 +215,8 @@ pub fn alike_with_rust(pair: &Pair) -> Result<(), String> {
     (0..2).try_for_each(|i| with_rust(&pair.masks[i], &pair.journals[i]).map(|_| ()))
 }
 
-/// The port on a pair that picks the same slots: the same answer, every byte of the output, and the same list. List and scratch
-/// suffice for both.
+/// The port on a pair that picks the same slots: the same answer, every byte of the output, and the same list, and those that the
+/// model gives. List and scratch suffice for both.
 pub fn alike_by_port(port: &dyn Port, r: &mut Rng, pair: &Pair) -> Result<(), String> {
     let (a, b) = (needed(&pair.masks[0], &pair.journals[0]), needed(&pair.masks[1], &pair.journals[1]));
     let list: Vec<u32> = (0..a.0.max(b.0)).map(|_| r.next() as u32).collect();
@@ -212,11 +228,12 @@ pub fn alike_by_port(port: &dyn Port, r: &mut Rng, pair: &Pair) -> Result<(), St
         _ => a.2,
     };
     let output = r.bytes(length);
-    let end = |i: usize| {
+    let call_of = |i: usize| {
         let (mask, journal) = (&pair.masks[i], &pair.journals[i]);
-        port.filter(&Call { mask, journal, stated: None, asked: true, list: &list, scratch: &scratch, output: &output })
+        Call { mask, journal, stated: None, asked: true, list: &list, scratch: &scratch, output: &output }
     };
-    let (one, two) = (end(0)?, end(1)?);
+    call(port, &call_of(0))?;
+    let (one, two) = (port.filter(&call_of(0))?, port.filter(&call_of(1))?);
     ensure(one.answer == two.answer, || format!("answers {:?} and {:?}", one.answer, two.answer))?;
     same_bytes("outputs", &one.output, &two.output)?;
     same_bytes("lists", &one.list, &two.list)

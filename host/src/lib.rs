@@ -6,4 +6,5 @@ pub mod model;
 pub mod pack;
 pub mod paper;
 pub mod port;
+pub mod replay;
 pub mod rust;

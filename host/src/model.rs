@@ -272,8 +272,8 @@ pub fn extract(journal: &Pack, picked: &[usize]) -> Option<Vec<u8>> {
     let kept = kept_rows(journal, picked);
     let mut body = vec![];
     let mut nodes = vec![];
-    for i in 0..journal.nodes.len() {
-        nodes.push(write_node(journal, i, &kept[i], &mut body));
+    for (i, kept) in kept.iter().enumerate() {
+        nodes.push(write_node(journal, i, kept, &mut body));
         if body.len() > PACK_LIMIT {
             return None;
         }

@@ -224,7 +224,7 @@ fn leaves_a_spare_bit() {
         if let Answer::Done { bytes, .. } = end.answer {
             let pack = Pack::read(&end.output[..bytes as usize]).unwrap();
             let n = pack.nodes[0];
-            if n.kind == BITS && n.rows % 8 != 0 {
+            if n.kind == BITS && !n.rows.is_multiple_of(8) {
                 end.output[n.first as usize + n.rows as usize / 8] |= 0x80;
             }
         }

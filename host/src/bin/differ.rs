@@ -4,6 +4,8 @@
 //!     differ random SEED COUNT    random packs, good and damaged
 //!     differ alike SEED COUNT     pairs of journals alike in the kept part, different elsewhere (demand 3)
 //!     differ exhaustive SLOTS     every mask of up to SLOTS slots, on columns of every kind, each skip from 0 to 9
+//!     differ boundaries SEED ROUNDS  masks around each boundary of length and count, on columns of every kind
+//!     differ list SEED COUNT FOLDER  writes random calls and what they give, for the program `replay`, as FOLDER/stdin and stdout
 //!     differ paper                the paper's bench cases and refusal examples, and packs at its limits
 //!
 //! The last line is 'N passed, M failed'. The smallest failing input of each run is printed in hex.
@@ -13,6 +15,7 @@ use host::model::{self, Picks};
 use host::pack::*;
 use host::paper;
 use host::port::{Model, Port};
+use host::replay::{self, Replay};
 use std::panic::{AssertUnwindSafe, catch_unwind};
 use std::process::ExitCode;
 use std::sync::atomic::{AtomicBool, Ordering::Relaxed};
@@ -193,14 +196,81 @@ fn every_mask(tally: &mut Tally, r: &mut Rng, bytes: &[u8], most: usize) {
     for slots in 0..=most {
         for word in 0..1u32 << slots {
             let picks: Vec<bool> = (0..slots).map(|i| word >> i & 1 == 1).collect();
-            let mask = mask_pack(r, &picks);
-            let name = "exhaustive";
-            tally.case(name, &[&mask, bytes], || compare::mask_with_rust(&mask, &journal));
-            if let Some(port) = &port {
-                tally.case(name, &[&mask, bytes], || compare::exact(port.as_ref(), r, &mask, bytes));
+            one_mask(tally, &port, r, "exhaustive", &picks, bytes, &journal);
+        }
+    }
+}
+
+/// These picks on one journal: the model against filter.rs, and against the port with its list stored and not.
+fn one_mask(
+    tally: &mut Tally,
+    port: &Option<Box<dyn Port>>,
+    r: &mut Rng,
+    name: &str,
+    picks: &[bool],
+    bytes: &[u8],
+    journal: &Journal,
+) {
+    let mask = mask_pack(r, picks);
+    tally.case(name, &[&mask, bytes], || compare::mask_with_rust(&mask, journal));
+    if let Some(port) = port {
+        tally.case(name, &[&mask, bytes], || compare::exact(port.as_ref(), r, &mask, bytes));
+    }
+}
+
+/// Lengths at and next to a boundary of words, halves of words and fifths.
+const LENGTHS: [usize; 20] = [1, 4, 5, 6, 10, 31, 32, 33, 62, 63, 64, 65, 127, 128, 129, 191, 192, 193, 320, 321];
+
+/// Masks around each boundary: on columns of each kind, of each length above, every count up to 65 slots and those next to a
+/// boundary beyond, spread in each way; the journal as long as the mask or longer.
+fn boundaries(seed: u64, rounds: u64) -> Tally {
+    let mut tally = Tally::default();
+    let port = port();
+    let mut routes = [0u64; 4];
+    for round in 0..rounds {
+        let mut r = rng(seed, round);
+        let name = format!("boundaries {seed} round {round}");
+        for (shape, length) in few_shapes(&mut r).iter().flat_map(|shape| LENGTHS.map(|length| (shape, length))) {
+            let rows = length + r.pick(&[0, 0, 0, 1, 20]);
+            let column = Maker::new(&mut r).column(shape, rows, None);
+            let bytes = lay(&mut r, &column);
+            let journal = Journal::new(&bytes);
+            for (count, way) in counts(length).into_iter().flat_map(|count| (0..SPREADS).map(move |way| (count, way))) {
+                let picks = spread_by(&mut r, way, length, count);
+                routes[Picks { slots: length, picked: (0..count).collect() }.route() as usize] += 1;
+                one_mask(&mut tally, &port, &mut r, &name, &picks, &bytes, &journal);
             }
         }
     }
+    println!("masks by route none, all, slices, indices: {routes:?}");
+    tally.report(&format!("boundaries, seed {seed}, rounds {rounds}"));
+    tally
+}
+
+/// Calls for the program `replay`, each first compared with filter.rs and, where it is linked, with the port.
+fn list(seed: u64, count: u64, folder: &str) -> Tally {
+    let mut tally = Tally::default();
+    let mut list = Replay::default();
+    let port = port();
+    for i in 0..count {
+        let case = replay::case(&mut rng(seed, i), i);
+        let packs: [&[u8]; 2] = [&case.mask, &case.journal];
+        tally.case(&case.name, &packs, || compare::with_rust(&case.mask, &case.journal));
+        if let Some(port) = &port {
+            tally.case(&case.name, &packs, || case.lent(|call| compare::call(port.as_ref(), call)));
+        }
+        list.add(&case);
+    }
+    let title = format!("# random calls: differ list {seed} {count} FOLDER\n");
+    let written = list.write(&title, std::path::Path::new(folder));
+    tally.case("written", &[], || written.map_err(|e| format!("{folder}: {e}")));
+    println!(
+        "answers, 0 to 14: {:?}; by route none, all, slices, indices: lazy {:?}, stored {:?}",
+        list.answers, list.lazy, list.stored
+    );
+    println!("nodes of accepted journals, by kind: {:?}", &list.kinds[1..]);
+    tally.report(&format!("list, seed {seed}"));
+    tally
 }
 
 /// The paper's own cases and its limits, with the answers that it gives.
@@ -230,15 +300,19 @@ fn main() -> ExitCode {
         }
     }));
     let words: Vec<String> = std::env::args().skip(1).collect();
-    let numbers: Option<Vec<u64>> = words.iter().skip(1).map(|word| word.parse().ok()).collect();
+    let numbers: Option<Vec<u64>> = words.iter().skip(1).take(2).map(|word| word.parse().ok()).collect();
+    let folder = words.get(3).map(String::as_str);
     let tallies = match (words.first().map(String::as_str), numbers.as_deref()) {
-        (None, _) => vec![paper(), random(1, 3000), alike(1, 1000), exhaustive(5)],
+        (Some("list"), Some(&[seed, count])) if folder.is_some() => vec![list(seed, count, folder.unwrap())],
+        (None, _) => vec![paper(), random(1, 3000), alike(1, 1000), exhaustive(5), boundaries(1, 1)],
         (Some("paper"), Some([])) => vec![paper()],
         (Some("random"), Some(&[seed, count])) => vec![random(seed, count)],
         (Some("alike"), Some(&[seed, count])) => vec![alike(seed, count)],
         (Some("exhaustive"), Some(&[slots @ 0..=16])) => vec![exhaustive(slots as usize)],
+        (Some("boundaries"), Some(&[seed, rounds])) => vec![boundaries(seed, rounds)],
         _ => {
-            eprintln!("differ [random SEED COUNT | alike SEED COUNT | exhaustive SLOTS (at most 16) | paper]");
+            eprintln!("differ [paper | random SEED COUNT | alike SEED COUNT | exhaustive SLOTS (at most 16)");
+            eprintln!("        | boundaries SEED ROUNDS | list SEED COUNT FOLDER]");
             return ExitCode::from(2);
         }
     };

@@ -59,6 +59,7 @@ fn main() -> ExitCode {
             }
         }
     }
+    println!("verdicts, seed {seed}: {passed} passed, {failed} failed");
     println!("{passed} passed, {failed} failed");
     if failed == 0 && passed > 0 { ExitCode::SUCCESS } else { ExitCode::FAILURE }
 }

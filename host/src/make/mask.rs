@@ -25,10 +25,32 @@ fn boundary_count(r: &mut Rng, slots: usize) -> usize {
     count.min(slots)
 }
 
-/// `count` slots picked, spread evenly, in stretches, or at one end.
+/// The ways to spread picks.
+pub const SPREADS: usize = 4;
+
+/// `count` slots picked, spread in any way.
 pub fn spread(r: &mut Rng, slots: usize, count: usize) -> Vec<bool> {
+    let way = r.below(SPREADS);
+    spread_by(r, way, slots, count)
+}
+
+/// Every count of a short mask, and of a long one those at and next to each boundary.
+pub fn counts(slots: usize) -> Vec<usize> {
+    if slots <= 65 {
+        return (0..=slots).collect();
+    }
+    let (word, threshold) = (slots / 64, slots * 4 / 5);
+    let edges = [0, word, 63, slots / 2, threshold, slots - word, slots];
+    let mut counts: Vec<usize> = edges.iter().flat_map(|edge| edge.saturating_sub(2)..=(edge + 2).min(slots)).collect();
+    counts.sort();
+    counts.dedup();
+    counts
+}
+
+/// `count` slots picked: the first, the last, one stretch anywhere, or each alike.
+pub fn spread_by(r: &mut Rng, way: usize, slots: usize, count: usize) -> Vec<bool> {
     let mut picks = vec![false; slots];
-    match r.below(4) {
+    match way {
         0 => picks[..count].fill(true),
         1 => picks[slots - count..].fill(true),
         2 => {

@@ -8,7 +8,7 @@ mod shape;
 pub use column::{Column, Maker};
 pub use damage::damage;
 pub use layout::lay;
-pub use mask::mask_pack;
+pub use mask::{SPREADS, counts, mask_pack, spread_by};
 pub use shape::{Shape, nestings, single};
 
 use column::Like;
@@ -24,6 +24,7 @@ impl Rng {
     pub fn new(seed: u64) -> Self {
         Self(seed)
     }
+    #[expect(clippy::should_implement_trait)]
     pub fn next(&mut self) -> u64 {
         self.0 = self.0.wrapping_add(0x9E37_79B9_7F4A_7C15);
         let mut z = self.0;

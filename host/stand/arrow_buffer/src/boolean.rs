@@ -67,7 +67,7 @@ impl BitAnd<&BooleanBuffer> for &BooleanBuffer {
         assert_eq!(self.len, rhs.len);
         let (a, b) = (self.bit_chunks(), rhs.bit_chunks());
         let mut words: Vec<u64> = a.iter().zip(b.iter()).map(|(a, b)| a & b).collect();
-        if self.len % 64 != 0 {
+        if !self.len.is_multiple_of(64) {
             words.push(a.remainder_bits() & b.remainder_bits());
         }
         BooleanBuffer::new(words.into(), 0, self.len)

@@ -214,7 +214,7 @@ impl MutableBuffer {
             }
             words.push(packed);
         }
-        if len % 64 != 0 {
+        if !len.is_multiple_of(64) {
             let mut packed = 0u64;
             for bit in 0..len % 64 {
                 packed |= (f(len / 64 * 64 + bit) as u64) << bit;

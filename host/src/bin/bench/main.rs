@@ -1,0 +1,200 @@
+//! The port beside filter.rs, on the same packs, in one process: processor time of one thread in ns for each journal row, the least of
+//! many calls. Needs the feature `port`.
+//!
+//!     bench [--markdown] [COLUMN ...]
+//!
+//! filter      filter.rs's `filter` on arrays built beforehand
+//! validation  the content rules that must hold before such arrays may be built, in Rust: the faster of two ways to join the tests
+//! whole       the whole call of the port on the packs' bytes: check, measure, write; no list stored
+//! check, prepare, rest  its parts: the journal's verdict alone; the mask checked and counted alone; what is left of the whole
+//! memcpy      as many bytes as the extract has, copied
+//! ratio       whole / (validation + filter)
+mod columns;
+mod validate;
+
+use arrow_select::filter::filter;
+use columns::{COLUMNS, Column, Making};
+use host::make::Rng;
+use host::pack::*;
+use host::port::entry::{self, Lent};
+use host::rust;
+use std::hint::black_box;
+use validate::{Early, Folded, validate};
+
+/// Kept rows in thousandths: at the ends, in the middle, and on both sides of the route's threshold.
+const DENSITIES: [usize; 9] = [1, 10, 100, 500, 800, 810, 990, 999, 1000];
+const MASKS: [&str; 2] = ["random", "clustered"];
+const SEED: u64 = 5;
+
+/// This thread's processor time in ns: other work on a shared machine does not count.
+fn now() -> u64 {
+    #[repr(C)]
+    struct Time {
+        seconds: i64,
+        nanoseconds: i64,
+    }
+    unsafe extern "C" {
+        fn clock_gettime(clock: i32, time: *mut Time) -> i32;
+    }
+    /// CLOCK_THREAD_CPUTIME_ID of Linux
+    const THREAD: i32 = 3;
+    let mut time = Time { seconds: 0, nanoseconds: 0 };
+    // SAFETY: `time` is what the call fills
+    assert_eq!(unsafe { clock_gettime(THREAD, &mut time) }, 0);
+    (time.seconds * 1_000_000_000 + time.nanoseconds) as u64
+}
+
+/// Freed memory is kept and given out again, so that filter.rs's results stand on pages that were used before, as the port's do.
+fn reuse_memory() {
+    unsafe extern "C" {
+        fn mallopt(name: i32, value: i32) -> i32;
+    }
+    const TRIM_THRESHOLD: i32 = -1;
+    const MMAP_THRESHOLD: i32 = -3;
+    // SAFETY: both settings of glibc take any number of bytes up to these
+    assert_eq!(unsafe { mallopt(MMAP_THRESHOLD, 32 << 20) & mallopt(TRIM_THRESHOLD, i32::MAX) }, 1);
+}
+
+/// The least time of up to 100 calls, or of as many as a fifth of a second of processor time has.
+fn least(mut call: impl FnMut()) -> f64 {
+    let start = now();
+    let mut best = u64::MAX;
+    for i in 0..100 {
+        let before = now();
+        call();
+        best = best.min(now() - before);
+        if i >= 5 && now() - start > 200_000_000 {
+            break;
+        }
+    }
+    best as f64
+}
+
+/// What is lent to every call of the port, and reused.
+struct Room {
+    scratch: Vec<u8>,
+    output: Vec<u8>,
+}
+
+/// Times of one column under one mask, in ns for each row.
+struct Cell {
+    filter: f64,
+    whole: f64,
+    prepare: f64,
+    memcpy: f64,
+}
+
+/// A column's times.
+struct Timed {
+    name: &'static str,
+    rows: usize,
+    bytes: usize,
+    validation: f64,
+    check: f64,
+    /// by masks, then by density
+    cells: Vec<Vec<Cell>>,
+}
+
+impl Timed {
+    fn ratio(&self, cell: &Cell) -> f64 {
+        cell.whole / (self.validation + cell.filter)
+    }
+}
+
+fn time_cell(room: &mut Room, mask: &[u8], journal: &[u8], rows: usize) -> Cell {
+    let array = rust::build(&Pack::read(journal).unwrap());
+    let mask_array = rust::mask_array(&Pack::read(mask).unwrap());
+    let filter = least(|| drop(black_box(filter(black_box(array.as_ref()), black_box(&mask_array)).unwrap())));
+    let mut answer = [0; 4];
+    let whole = least(|| {
+        let lent = Lent { list: &mut [], scratch: &mut room.scratch, output: &mut room.output };
+        assert_eq!(entry::filter(black_box(mask), black_box(journal), None, false, lent, &mut answer), 0);
+    });
+    let bytes = (answer[3] as usize).min(journal.len());
+    let prepare = least(|| assert_eq!(entry::prepare(black_box(mask), None, false, &mut [], &mut answer), 0));
+    let memcpy = least(|| black_box(&mut room.output[..bytes]).copy_from_slice(black_box(&journal[..bytes])));
+    let row = |ns: f64| ns / rows as f64;
+    Cell { filter: row(filter), whole: row(whole), prepare: row(prepare), memcpy: row(memcpy) }
+}
+
+fn time_column(room: &mut Room, (name, rows, make): Column) -> Timed {
+    let mut r = Rng::new(SEED);
+    let mut making = Making::default();
+    make(&mut making, &mut r, rows);
+    let journal = making.finish();
+    assert_eq!(host::model::check(&journal), 0, "{name}");
+    let pack = Pack::read(&journal).unwrap();
+    let validation =
+        least(|| assert!(validate::<Early>(black_box(&pack)))).min(least(|| assert!(validate::<Folded>(black_box(&pack)))));
+    let check = least(|| assert_eq!(entry::check(black_box(&journal)), 0));
+    let mut by_masks = |spread: fn(&mut Rng, usize, usize) -> Vec<bool>| {
+        let mut cell = |density: usize| {
+            let mask = columns::mask(&spread(&mut r, rows, rows * density / 1000));
+            time_cell(room, &mask, &journal, rows)
+        };
+        DENSITIES.map(&mut cell).into()
+    };
+    let cells = vec![by_masks(columns::random), by_masks(columns::clustered)];
+    let row = |ns: f64| ns / rows as f64;
+    Timed { name, rows, bytes: journal.len(), validation: row(validation), check: row(check), cells }
+}
+
+/// Prints rows of cells, the first row being the head: as Markdown, or in columns.
+fn print_table(markdown: bool, table: &[Vec<String>]) {
+    for (i, row) in table.iter().enumerate() {
+        if markdown {
+            println!("| {} |", row.join(" | "));
+        } else {
+            println!("{:20}{}", row[0], row[1..].iter().map(|cell| format!("{cell:>12}")).collect::<String>());
+        }
+        if markdown && i == 0 {
+            println!("|---|{}", "--:|".repeat(row.len() - 1));
+        }
+    }
+    println!();
+}
+
+fn percent(density: usize) -> String {
+    format!("{} %", density as f64 / 10.0)
+}
+
+fn print_all(markdown: bool, columns: &[Timed]) {
+    let title = |text: String| if markdown { println!("### {text}\n") } else { println!("{text}") };
+    for (i, masks) in MASKS.iter().enumerate() {
+        title(format!("whole / (validation + filter), {masks} masks"));
+        let head = std::iter::once("column".into()).chain(DENSITIES.map(percent)).collect();
+        let row =
+            |c: &Timed| std::iter::once(c.name.into()).chain(c.cells[i].iter().map(|x| format!("{:.2}", c.ratio(x)))).collect();
+        print_table(markdown, &std::iter::once(head).chain(columns.iter().map(row)).collect::<Vec<_>>());
+    }
+    for c in columns {
+        title(format!("{}: {} rows, {} bytes", c.name, c.rows, c.bytes));
+        let head = ["masks, kept", "filter", "validation", "both", "check", "prepare", "rest", "whole", "memcpy", "ratio"];
+        let mut table = vec![head.map(String::from).to_vec()];
+        for (masks, cells) in MASKS.iter().zip(&c.cells) {
+            for (density, x) in DENSITIES.iter().zip(cells) {
+                let rest = x.whole - c.check - x.prepare;
+                let times = [x.filter, c.validation, c.validation + x.filter, c.check, x.prepare, rest, x.whole, x.memcpy];
+                let mut row = vec![format!("{masks} {}", percent(*density))];
+                row.extend(times.iter().map(|ns| format!("{ns:.3}")));
+                row.push(format!("{:.2}", c.ratio(x)));
+                table.push(row);
+            }
+        }
+        print_table(markdown, &table);
+    }
+}
+
+fn main() {
+    let words: Vec<String> = std::env::args().skip(1).collect();
+    let markdown = words.iter().any(|word| word == "--markdown");
+    let named: Vec<&String> = words.iter().filter(|word| *word != "--markdown").collect();
+    reuse_memory();
+    let mut room = Room { scratch: vec![0; ROW_LIMIT as usize / 8], output: vec![0; PACK_LIMIT] };
+    let mut timed = vec![];
+    for column in COLUMNS.iter().filter(|column| named.is_empty() || named.iter().any(|name| *name == column.0)) {
+        eprintln!("{}", column.0);
+        timed.push(time_column(&mut room, *column));
+    }
+    print_all(markdown, &timed);
+}

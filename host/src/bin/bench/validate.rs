@@ -1,0 +1,101 @@
+//! What a Rust program does before it may build arrays from bytes that came from elsewhere: the content rules of arrow-data's
+//! `validate_full`, as plain loops over the buffers. Offsets, views, list views, run ends, ids, keys; nulls are counted. Bytes are not
+//! UTF-8 here, and a view's prefix and padding are not looked at: document 01 has no such rule.
+use host::pack::*;
+
+/// How the tests of a loop are joined.
+pub trait Way {
+    fn all(tests: impl Iterator<Item = bool>) -> bool;
+}
+
+/// The first fault ends the loop: arrow-data's way.
+pub struct Early;
+
+/// Every test is made, and one flag kept: such a loop may go by vectors.
+pub struct Folded;
+
+impl Way for Early {
+    fn all(mut tests: impl Iterator<Item = bool>) -> bool {
+        tests.all(|test| test)
+    }
+}
+
+impl Way for Folded {
+    fn all(tests: impl Iterator<Item = bool>) -> bool {
+        tests.fold(true, |all, test| all & test)
+    }
+}
+
+/// All nodes of an accepted pack whose entries have the widths that the benchmark uses.
+pub fn validate<W: Way>(pack: &Pack) -> bool {
+    (0..pack.nodes.len()).all(|i| nulls_counted(pack, i) && node::<W>(pack, i))
+}
+
+fn node<W: Way>(pack: &Pack, i: usize) -> bool {
+    let n = &pack.nodes[i];
+    let rows = n.rows as usize;
+    match (n.kind, n.param) {
+        (BITS | NATIVE | FIXED | STRUCT, _) => true,
+        (BYTES, _) => {
+            let offsets = fours(pack, n.first, rows + 1);
+            let rising = W::all(offsets[..rows].iter().zip(&offsets[1..]).map(|(a, b)| signed(a) <= signed(b)));
+            rising & (signed(&offsets[0]) >= 0) & (signed(&offsets[rows]) <= n.second_length as i32)
+        }
+        (VIEWS, _) => views::<W>(pack, i),
+        (LIST_VIEW, _) => {
+            let child = pack.nodes[i + 1].rows as i64;
+            let (offsets, sizes) = (fours(pack, n.first, rows), fours(pack, n.second, rows));
+            W::all(offsets.iter().zip(sizes).map(|(offset, size)| {
+                let (offset, size) = (signed(offset), signed(size));
+                (offset >= 0) & (size >= 0) & (offset as i64 + size as i64 <= child)
+            }))
+        }
+        (RUNS, 4) => {
+            let ends = fours(pack, n.first, pack.nodes[i + 1].rows as usize);
+            let rising = W::all(ends.iter().zip(&ends[1..]).map(|(a, b)| signed(a) < signed(b)));
+            rising & (signed(&ends[0]) > 0) & (signed(&ends[ends.len() - 1]) >= rows as i32)
+        }
+        (UNION, _) => {
+            let kids = n.kids as u8;
+            W::all(pack.body[n.first as usize..][..rows].iter().map(|id| *id < kids))
+        }
+        (DICTIONARY, 4) => {
+            let values = pack.nodes[i + 1].rows;
+            W::all(fours(pack, n.first, rows).iter().map(|key| u32::from_le_bytes(*key) < values))
+        }
+        other => unreachable!("kind and param {other:?}"),
+    }
+}
+
+fn views<W: Way>(pack: &Pack, i: usize) -> bool {
+    let n = &pack.nodes[i];
+    let buffers: Vec<i64> = pack.children(i).iter().map(|kid| pack.nodes[*kid].rows as i64).collect();
+    W::all(pack.body[n.first as usize..][..16 * n.rows as usize].as_chunks::<16>().0.iter().map(|view| {
+        let field = |k: usize| i32::from_le_bytes([view[4 * k], view[4 * k + 1], view[4 * k + 2], view[4 * k + 3]]);
+        let (length, buffer, offset) = (field(0), field(2), field(3));
+        let room = buffers.get(buffer as usize).copied().unwrap_or(-1);
+        (length >= 0) & ((length <= 12) | ((offset >= 0) & (offset as i64 + length as i64 <= room)))
+    }))
+}
+
+/// The nulls, which arrow-data holds to the count that came with them.
+fn nulls_counted(pack: &Pack, i: usize) -> bool {
+    let n = &pack.nodes[i];
+    if n.validity == NO_BITMAP {
+        return true;
+    }
+    let (words, rest) = pack.body[n.validity as usize..][..n.span().div_ceil(8)].as_chunks::<8>();
+    let ones = |sum: u32, bits: u64| sum + bits.count_ones();
+    let count = words.iter().map(|word| u64::from_le_bytes(*word)).chain(rest.iter().map(|byte| *byte as u64)).fold(0, ones);
+    // no bit is spare here, and a count that is wrong would be more than there are rows
+    std::hint::black_box(count) <= n.rows
+}
+
+/// `count` entries of four bytes.
+fn fours<'a>(pack: &Pack<'a>, at: u32, count: usize) -> &'a [[u8; 4]] {
+    pack.body[at as usize..][..4 * count].as_chunks().0
+}
+
+fn signed(bytes: &[u8; 4]) -> i32 {
+    i32::from_le_bytes(*bytes)
+}
