@@ -1,2 +1,3 @@
--- What the packer means.
+-- What the packer means, and a word as lanes.
+pub mod Lanes
 pub mod Pack
