@@ -1,20 +1,16 @@
 -- Each case of a selection gives its next block, and the cursor stays in step. Assumes nothing.
-use Prim.Native.Nat.{ℕ, _+_, _-_, _*_, _≤_, _<_}
-use mathlib.Core.Bool.{Bool, true, false, and-eq-true-iff}
+use Prim.Native.Nat.{ℕ, _+_, _-_, _≤_, _<_}
+use mathlib.Core.Bool.{Bool, false}
 use mathlib.Core.List.{List, [], _∷_, _++_, append-nil}
 use mathlib.Core.Path.{_≡_, refl, sym, ap, _∙_}
 use native.Mathlib.Omega.{arith}
-use borrow.Author.Tests.{leb-true}
-use lib.Dec.{leb}
 use lib.ListN.{length, getD}
 use Rattle.format.specs.Bytes.{bytesAt}
 use Rattle.format.specs.Rows.{setRows, Below}
-use Rattle.format.specs.Slots.{after, wordFrom, runsFrom, countUp, startsAndEnds, All, FirstRun}
+use Rattle.format.specs.Slots.{after, wordFrom, runsFrom, countUp, startsAndEnds, FirstRun}
 use Rattle.format.proofs.Numbers.{bytes-none, length-bytes}
 use Rattle.format.proofs.RowLaws.{set-from, below-left, below-picks, list-more}
-use Rattle.format.proofs.SlotLaws.{all-none, all-join}
-use Rattle.format.proofs.WordLaws.{from-all}
-use Rattle.slots.specs.Source.{Ones}
+use Rattle.format.proofs.SlotLaws.{all-none}
 use Rattle.predicate.specs.declared.Held.the-variants.{Stored, Lazy}
 use Rattle.predicate.specs.declared.Selection.{Selection}
 use Rattle.predicate.specs.declared.Selection.the-variants.{Everything, Runs, Rows}
@@ -133,26 +129,6 @@ module _ (p : ℕ → Bool) {len base place x : ℕ} (past : (j : ℕ) → len �
         moves = omega arith;
         inside = omega arith;
       }
-
-  -- one of ones, and those after it
-  module _ (ones : x ≡ 0xFFFF_FFFF_FFFF_FFFF) {v r : ℕ} (more : Ones p v len r) (next : 64 * v ≡ base + 64) where
-    full : All (after p place) true base (base + 64)
-    full = from-all (after p place) 64 base (rw (← is) (omega arith))
-
-    at-start : place ≤ base
-    at-start = leb-true place base (and-eq-true-iff (leb place base) (p base) .0 (full .at base (omega arith) (omega arith)) .0)
-
-    pub ones-leaves : {e q : ℕ} → e ≡ 64 * r → q ≡ e → Leaves p len place (countUp (e - base) base) q
-    ones-leaves {e} to e′ =
-        let low = more .low in
-        let high = more .high in
-        let same : place ≡ base = omega (arith, at-start) in
-        let first : All p true base (base + 64) = record { at = λ j m k. and-eq-true-iff (leb place j) (p j) .0 (full .at j m k) .1 } in
-        record {
-          rest = rw (e′, same) (picks-span len (omega arith) (omega arith) (omega arith) (all-none (omega arith)) (all-join first (rw (← next, to) (more .all))));
-          moves = omega arith;
-          inside = omega arith;
-        }
 
 -- ---- by the mask alone
 

@@ -1,12 +1,12 @@
 -- Blocks of kept rows: which rows each form of block has, and what asking for the next one answers. Assumes nothing.
-use Prim.Native.Nat.{ℕ, _-_, _≤_, _<_}
-use mathlib.Core.Bool.{Bool}
+use Prim.Native.Nat.{ℕ, _+_, _-_, _*_, _≤_, _<_}
+use mathlib.Core.Bool.{Bool, true, false}
 use mathlib.Core.List.{List, [], _++_}
 use mathlib.Core.Path.{_≡_}
 use lib.ListN.{length}
 use Rattle.format.specs.Bytes.{bytesAt}
 use Rattle.format.specs.Rows.{setRows}
-use Rattle.format.specs.Slots.{countUp}
+use Rattle.format.specs.Slots.{countUp, wordFrom, after, All}
 use Rattle.predicate.specs.declared.Selection.{Selection}
 use Rattle.predicate.specs.declared.Cursor.{Cursor}
 use Rattle.predicate.specs.declared.Block.{Block}
@@ -45,3 +45,16 @@ Worded p len from (Run a e d) = (a ≤ e) × (e ≤ len) × Leaves p len from (b
 Worded p len from (Word base x d) = (base ≤ len) × Leaves p len from (blockRows (Word base x d) []) (d .place)
 Worded p len from (Listed i j d) = ⊥
 Worded p len from End = picksOn p len from ≡ []
+
+-- no row from `from` up to word w is picked, and x is what is left of that word: some row
+pub record Found (p : ℕ → Bool) (from w x : ℕ) : Type 0 where
+  pub near : from ≤ 64 * w + 64
+  pub gap : All p false from (64 * w)
+  pub is : x ≡ wordFrom (after p from) 64 (64 * w)
+  pub some : 0 < x
+
+-- every row of [a, r) is picked
+pub record Filled (p : ℕ → Bool) (a len r : ℕ) : Type 0 where
+  pub low : a ≤ r
+  pub high : r ≤ len
+  pub all : All p true a r

@@ -1,6 +1,6 @@
 // From a mask's bits to the rows that every column filter takes: the selection, its stored list, and blocks of kept rows.
 ghost use mathlib.Core.Path.{_≡_};
-ghost use Prim.Native.Nat.{_+_, _^_, _≤_, _<_};
+ghost use Prim.Native.Nat.{_+_, _*_, _^_, _≤_, _<_};
 ghost use lib.ListN.{length};
 ghost use Rattle.format.specs.Put.{Wrote};
 ghost use Rattle.format.specs.Rows.{setRows, Below};
@@ -10,7 +10,7 @@ ghost use Rattle.format.specs.Answer.{unstated, statedIf, wrongCount, preparing
 ghost use Rattle.slots.specs.Source.{slotOf, Lies};
 ghost use Rattle.slots.specs.Node.{bitsOf};
 ghost use Rattle.predicate.specs.Selection.{InStep, keptBy, Readable, entriesOn, selectionFor};
-ghost use Rattle.predicate.specs.Blocks.{Worded, Blocked};
+ghost use Rattle.predicate.specs.Blocks.{Worded, Blocked, Found, Filled};
 ghost use Rattle.predicate.specs.Prepare.{Counted, Answered};
 use format::Pack;
 use format::Prepared;
@@ -47,24 +47,17 @@ pub enum Block {
     End,
 }
 
-// The rest of the word of the mask that `place` is in; words of ones are joined to a run. For a selection that goes by the mask alone.
-fn next_word(s: &[u8], b: Bits, place: usize, index: usize) -> Block
+// What is left of one of the mask's last two words: its reads may leave the slice, and its bits the last slot.
+fn last_block(s: &[u8], b: Bits, place: usize, index: usize) -> Block
     requires { ⌜ Lies (now s) b ⌝ }
+    requires { ⌜ place < b .len ⌝ }
     ensures { λ r. ⌜ Worded (slotOf (now (s .entry)) b) (b .len) place r ⌝ }
 {
     let len = b.len;
-    if len <= place {
-        return Block::End;
-    }
-    let w = place / 64;
-    let base = 64 * w;
+    let base = 64 * (place / 64);
     let x = slots::word_after(s, b, place);
     if len <= base + 64 {
         return Block::Word(base, x, Cursor { place: len, index });
-    }
-    if x == slots::ONES {
-        let e = 64 * slots::ones_end(s, b, w + 1);
-        return Block::Run(base, e, Cursor { place: e, index });
     }
     Block::Word(
         base,
@@ -74,6 +67,81 @@ fn next_word(s: &[u8], b: Bits, place: usize, index: usize) -> Block
             index,
         },
     )
+}
+
+// Where the kept rows end that start with word `from`: at the first row that is not kept, or before the last two words.
+fn run_end(s: &[u8], b: Bits, from: usize) -> usize
+    requires { ⌜ Lies (now s) b ⌝ }
+    requires { ⌜ 64 * from < b .len ⌝ }
+    ensures { λ r. ⌜ Filled (slotOf (now (s .entry)) b) (64 * from) (b .len) r ⌝ }
+{
+    let len = b.len;
+    let w = slots::ones_end(s, b, from);
+    if len < 64 * w + 128 {
+        return 64 * w;
+    }
+    64 * w + u64::trailing_zeros(slots::ONES - slots::word_in(s, b, w)) as usize
+}
+
+// Whether a word has at most two set bits. Nothing is promised: it chooses between two right answers.
+fn few(y: u64) -> bool {
+    let z = y & std::num::wrapping_sub_u64(y, 1);
+    z & std::num::wrapping_sub_u64(z, 1) == 0
+}
+
+// The rows of word w from its first kept row on, x being what is left of that word: as a run, which may go on in later words, where at most
+// two rows after the first are not kept. Measured at random masks: against a limit of one, two take up to .08 ns a row more of native columns
+// at 93 to 95 % kept, .04 at 97 % and nothing at 99 %, but 1.3 to 1.9 ns less of texts at 95 to 97 %. In a model of the loops in Rust, four
+// took .1 to .3 more than two of native columns at 90 to 95 %, and gained nothing above.
+fn word_block(s: &[u8], b: Bits, place: usize, w: usize, x: u64, index: usize) -> Block
+    requires { ⌜ Lies (now s) b ⌝ }
+    requires { ⌜ (64 * w + 128 ≤ b .len) × Found (slotOf (now s) b) place w x ⌝ }
+    ensures { λ r. ⌜ Worded (slotOf (now (s .entry)) b) (b .len) place r ⌝ }
+{
+    let base = 64 * w;
+    let t = u64::trailing_zeros(x) as usize;
+    let y = (slots::ONES - x) >> t << t;
+    if !few(y) {
+        return Block::Word(
+            base,
+            x,
+            Cursor {
+                place: base + 64,
+                index,
+            },
+        );
+    }
+    let a = base + t;
+    if y == 0 {
+        let e = run_end(s, b, w + 1);
+        return Block::Run(a, e, Cursor { place: e, index });
+    }
+    let e = base + u64::trailing_zeros(y) as usize;
+    Block::Run(a, e, Cursor { place: e, index })
+}
+
+// The rows kept next, by the mask alone: from the word of `place` on, words of zeros are passed over.
+fn next_word(s: &[u8], b: Bits, place: usize, index: usize) -> Block
+    requires { ⌜ Lies (now s) b ⌝ }
+    ensures { λ r. ⌜ Worded (slotOf (now (s .entry)) b) (b .len) place r ⌝ }
+{
+    let len = b.len;
+    if len <= place {
+        return Block::End;
+    }
+    let mut w = place / 64;
+    if len < 64 * w + 128 {
+        return last_block(s, b, place, index);
+    }
+    let mut x = slots::word_in(s, b, w) >> (place % 64) << (place % 64);
+    while x == 0 {
+        w += 1;
+        if len < 64 * w + 128 {
+            return last_block(s, b, 64 * w, index);
+        }
+        x = slots::word_in(s, b, w);
+    }
+    word_block(s, b, place, w, x, index)
 }
 
 // The next block of kept rows, whatever the selection: the one place that looks at it.
