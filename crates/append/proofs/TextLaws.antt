@@ -9,7 +9,10 @@ use lib.ListN.{length, getD}
 use Rattle.format.specs.Bytes.{table, sumBelow, le, toLe, bytesAt}
 use Rattle.format.specs.Write.{total, numbers, offsets, ends}
 use Rattle.format.specs.Put.{Wrote}
+use Rattle.format.specs.Rows.{setRows}
 use Rattle.format.specs.Slots.{countUp}
+use Rattle.words.specs.Run.{LowestRun}
+use Rattle.words.proofs.Carry.{rows-off, run-below, rest-below}
 use Rattle.format.proofs.Measure.{length-toLe}
 use Rattle.format.proofs.Numbers.{table-front, table-ext, sum-front, numbers-none, numbers-cons, bytes-none, bytes-same, bytes-join, length-bytes}
 use Rattle.format.proofs.Put.{Left, whole, less, room, done, kept}
@@ -90,6 +93,25 @@ texts-more o b start {rs} {ts} {r} e = each-more (text o b start) rs ts r e
 pub texts-append : (o : ℕ → ℕ) (b : List ℕ) (start : ℕ) (xs ys : List ℕ) → textsOf o b start (xs ++ ys) ≡ textsOf o b start xs ++ textsOf o b start ys
 unfolding textsOf
 texts-append o b start xs ys = each-append (text o b start) xs ys
+
+-- the lowest run of a word's rows is the first of what is left to write
+module _ {word from to rest : ℕ} (h : LowestRun word from to rest) (base : ℕ) (o : ℕ → ℕ) (b : List ℕ) (start : ℕ) {old : List ℕ} {at : ℕ} {bs new : List ℕ} {here : ℕ}
+    (left : Left old at bs new here (textsOf o b start (setRows base word))) where
+  abbrev run : List ℕ
+  run = textsOf o b start (countUp (base + to - (base + from)) (base + from))
+
+  texts-off : textsOf o b start (setRows base word) ≡ run ++ textsOf o b start (setRows base rest)
+  texts-off = ap (textsOf o b start) (rows-off h base) ∙ texts-append o b start (countUp (base + to - (base + from)) (base + from)) (setRows base rest)
+
+  pub run-room : at + length bs ≤ length old → here + length (textsOf o b start (countUp (base + to - (base + from)) (base + from))) ≤ length new
+  run-room fit = room run (textsOf o b start (setRows base rest)) left texts-off fit
+
+  pub run-less : {last : List ℕ} {next : ℕ} → Wrote new here (textsOf o b start (countUp (base + to - (base + from)) (base + from))) last next
+      → Left old at bs last next (textsOf o b start (setRows base rest))
+  run-less w = less {xs = run} left texts-off w
+
+pub among-rest : {P : ℕ → Type 0} {word from to rest : ℕ} → LowestRun word from to rest → (base : ℕ) → Among P (setRows base word) → Among P (setRows base rest)
+among-rest h base a = record { len = a .len; below = rest-below h base (a .below); holds = a .holds }
 
 -- ---- offsets that do not fall
 
@@ -177,6 +199,11 @@ texts-fewer {w} {b} {first} {start} {n} m l h = record {
   offsets = offsets-fewer m l (h .offsets);
   within = omega (arith, h .within, risen (offset w b first) n (rises (h .offsets)) m n l (le-refl n));
 }
+
+-- a word's lowest run
+pub run-texts-fit : {w : ℕ} {b : List ℕ} {first start word from to rest : ℕ} → LowestRun word from to rest → (base : ℕ) → Among (Texts w b first start) (setRows base word)
+    → (base + from ≤ base + to) × Texts w b first start (base + to)
+run-texts-fit {to = to} h base a = (omega (arith, h .filled), texts-fewer (base + to) (run-below h base (a .below)) (a .holds))
 
 module _ {w : ℕ} {b : List ℕ} {first start a e p q : ℕ} (h : Texts w b first start e) (up : a ≤ e) (low : p ≡ offset w b first a) (high : q ≡ offset w b first e) where
   pub run-order : p ≤ q

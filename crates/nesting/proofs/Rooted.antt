@@ -1,30 +1,28 @@
--- Nodes that keep the root's rows: the climb to it, nulls by words, bytes by runs. Assumes nothing.
+-- Nodes that keep the root's rows: the climb to it, nulls by words. Assumes nothing.
 use Prim.Native.Nat.{ℕ, zero, suc, _+_, _-_, _*_, _^_, _/_, _%_, _≤_, _<_}
 use mathlib.Core.Bool.{Bool, true, false, not, _&&_}
 use mathlib.Core.List.{List, map}
 use mathlib.Core.Path.{_≡_, refl, sym, ap, _∙_}
 use mathlib.Core.Logic.{dite}
 use native.Mathlib.Decide.{decLt}
-use native.Mathlib.Nat.{add-zero, add-suc}
-use native.Mathlib.Numerals.{add-one}
 use native.Mathlib.Omega.{arith}
 use borrow.Author.Tests.{eqb-true}
 use lib.Bits.{bitAnd}
 use lib.Dec.{eqb}
 use lib.ListN.{length, getD}
 use Rattle.format.specs.Bytes.{anyBelow, chosen, join, one, bitIn}
-use Rattle.format.specs.Slots.{wordFrom, All, FirstRun}
-use Rattle.format.specs.Node.{nodeCount, kindNumber, kind, rows, parent, valid, hasNoBitmap, firstNumber, secondLength}
+use Rattle.format.specs.Slots.{wordFrom, All}
+use Rattle.format.specs.Node.{nodeCount, kindNumber, kind, rows, parent, valid, hasNoBitmap, secondLength}
 use Rattle.format.specs.Kept.{keptRows, ownBytes}
 use Rattle.format.specs.Write.{anyNull}
-use Rattle.format.specs.Accepted.{Shares, Sound, Offsets}
-use Rattle.format.proofs.Laws.{any-none, kept-root, chosen-miss}
+use Rattle.format.specs.Accepted.{Shares}
+use Rattle.format.proofs.Laws.{any-none, kept-root}
 use Rattle.format.proofs.SlotLaws.{all-join, all-less}
 use Rattle.format.proofs.WordLaws.{from-and, from-bit, from-ext, from-shift}
 use Rattle.nesting.specs.Rows.{Ready, Nodes, AtRoot, Level, Top}
 use Rattle.nesting.proofs.ByKind.{of-struct, of-union, not-shared, kind-at}
 use Rattle.nesting.proofs.Tree.{kept-shared}
-use Rattle.nesting.proofs.Sieve.{null-any, valid-bit, bytes-kept, own-length}
+use Rattle.nesting.proofs.Sieve.{null-any, valid-bit}
 
 -- The climb
 
@@ -143,59 +141,6 @@ root-null {b} {node = node} ready h some p n e =
     any-agree _ (λ r. p r && not (valid b node r)) n (λ r. ap (λ (t : Bool). p r && not t) (valid-bit ready h some r))
     ∙ sym (null-any p (valid b node) n)
     ∙ ap (λ (rs : List ℕ). anyNull (map (valid b node) rs)) (sym e)
-
--- Bytes by runs
-
--- slots that fail add nothing
-chosen-gap : (p : ℕ → Bool) (d a : ℕ) → All p false a (a + d) → chosen p (a + d) ≡ chosen p a
-chosen-gap p zero a all = ap (chosen p) (add-zero a)
-chosen-gap p (suc d) a all =
-    rw (add-suc a d, ← add-one (a + d))
-    (chosen-miss p (a + d) (all .at (a + d) (omega arith) (omega arith))
-    ∙ chosen-gap p d a (record { at = λ j l h. all .at j l (omega arith) }))
-
-module _ {b : List ℕ} {node w : ℕ} (s : Sound b) (o : Offsets w b node) (p : ℕ → Bool) where
-  -- a run adds what lies between its first offset and the one after its last
-  bytes-run : (d a : ℕ) → a + d ≤ rows b node → All p true a (a + d)
-      → (length (join (map (ownBytes w b node) (chosen p (a + d)))) ≡ length (join (map (ownBytes w b node) (chosen p a))) + (firstNumber w b node (a + d) - firstNumber w b node a))
-      × (firstNumber w b node a ≤ firstNumber w b node (a + d))
-  bytes-run zero a h all = let e : a + 0 ≡ a = add-zero a in rw e (omega arith)
-  bytes-run (suc d) a h all =
-      let (ih, up) = bytes-run d a (omega arith) (record { at = λ j l k. all .at j l (omega arith) }) in
-      let step = bytes-kept p (ownBytes w b node) (a + d) refl (all .at (a + d) (omega arith) (omega arith)) (sym (own-length s o (a + d) (omega arith))) in
-      let rise : firstNumber w b node (a + d) ≤ firstNumber w b node (a + d + 1) = rw (add-one (a + d)) (o .rise (a + d) (omega arith)) in
-      rw (add-suc a d, ← add-one (a + d)) (omega arith)
-
-  -- the next run [a, e) from `at` on
-  module _ {at len a e : ℕ} (f : FirstRun p at len a e) (long : len ≤ rows b node) where
-    pub run-bytes : (n x y : ℕ) → n ≡ length (join (map (ownBytes w b node) (chosen p at))) → x ≡ firstNumber w b node e → y ≡ firstNumber w b node a
-        → n + (x - y) ≡ length (join (map (ownBytes w b node) (chosen p e)))
-    run-bytes n x y en ex ey =
-        let q : a + (e - a) ≡ e = omega (arith, f .filled) in
-        let g : at + (a - at) ≡ a = omega (arith, f .low) in
-        let gap : chosen p a ≡ chosen p at = ap (chosen p) (sym g) ∙ chosen-gap p (a - at) at (rw g (f .before)) in
-        let (r, up) = bytes-run (e - a) a (omega (arith, q, f .high)) (rw q (f .within)) in
-        let r′ : length (join (map (ownBytes w b node) (chosen p e))) ≡ length (join (map (ownBytes w b node) (chosen p a))) + (firstNumber w b node e - firstNumber w b node a) = rw q at r in
-        rw (en, ex, ey, ← gap) (sym r′)
-
-    pub run-rises : firstNumber w b node a ≤ firstNumber w b node e
-    run-rises =
-        let q : a + (e - a) ≡ e = omega (arith, f .filled) in
-        let (r, up) = bytes-run (e - a) a (omega (arith, q, f .high)) (rw q (f .within)) in
-        rw q at up
-
-    pub gap-rises : firstNumber w b node at ≤ firstNumber w b node a
-    gap-rises = let g : at + (a - at) ≡ a = omega (arith, f .low) in rw g at (rises (a - at) at (omega (arith, g, f .high, f .filled)))
-      where
-        rises : (d k : ℕ) → k + d ≤ rows b node → firstNumber w b node k ≤ firstNumber w b node (k + d)
-        rises zero k h = let z : k + 0 ≡ k = add-zero k in rw z (omega arith)
-        rises (suc d) k h = rw (add-suc k d) (omega (arith, rises d k (omega arith), o .rise (k + d) (omega arith)))
-
-  -- no run is left
-  pub run-none : (at len n : ℕ) → at ≤ len → All p false at len → n ≡ length (join (map (ownBytes w b node) (chosen p at))) → n ≡ length (join (map (ownBytes w b node) (chosen p len)))
-  run-none at len n l all e =
-      let g : at + (len - at) ≡ len = omega arith in
-      e ∙ ap (λ (rs : List ℕ). length (join (map (ownBytes w b node) rs))) (sym (ap (chosen p) (sym g) ∙ chosen-gap p (len - at) at (rw g all)))
 
 -- The word loop: x are the picks of 64 slots from i on, v the bits from `first` + i on
 

@@ -1,2 +1,3 @@
--- The laws of moves that overlap.
+-- The laws of moves that overlap, and of a word's lowest run.
 pub mod Overlap
+pub mod Carry

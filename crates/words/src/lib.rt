@@ -4,6 +4,7 @@ ghost use Prim.Native.Nat.{_+_, _*_, _≤_, _<_};
 ghost use lib.ListN.{length};
 ghost use Rattle.format.specs.Put.{Wrote};
 ghost use Rattle.format.specs.Bytes.{le, toLe, bytesAt};
+ghost use Rattle.words.specs.Run.{LowestRun};
 
 // A byte as a wider number, with its bound for the sums around it.
 fn wide(x: u8) -> u64
@@ -260,4 +261,25 @@ pub fn move_entry(out: &mut [u8], at: usize, src: &[u8], from: usize, width: usi
         return move32(out, at, src, from);
     }
     copy(out, at, src, from, width)
+}
+
+// The lowest run of set bits of a word: bits `from` up to `to`, and the word without them.
+pub struct LowRun {
+    pub from: usize,
+    pub to: usize,
+    pub rest: u64,
+}
+
+// Taken off by a carry: the lowest bit added clears its run and sets the bit above it.
+pub fn low_run(word: u64) -> LowRun
+    requires { ⌜ 0 < word ⌝ }
+    ensures { λ r. ⌜ LowestRun word (r .from) (r .to) (r .rest) ⌝ }
+{
+    let others = word & std::num::wrapping_sub_u64(word, 1);
+    let carried = std::num::wrapping_add_u64(word, word - others);
+    LowRun {
+        from: u64::trailing_zeros(word) as usize,
+        to: u64::trailing_zeros(carried) as usize,
+        rest: word & carried,
+    }
 }

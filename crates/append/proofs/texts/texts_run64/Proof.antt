@@ -17,18 +17,18 @@ module _ (c : tie.After-get642) where
   unfolding offset
   high-is = c .get642 .ensures .0
 
-add-copy : tie.Need-add-copy
-add-copy c =
+add-copy-short : tie.Need-add-copy-short
+add-copy-short c =
     let s = c .before .before .before .before .before .pre .0 in
     omega (arith, run-inside (s .1) (s .0) (low-is (c .before)) (high-is (c .before)))
 
-sub-copy : tie.Need-sub-copy
-sub-copy c =
+sub-copy-short : tie.Need-sub-copy-short
+sub-copy-short c =
     let s = c .before .before .before .before .before .pre .0 in
     run-order (s .1) (s .0) (low-is (c .before)) (high-is (c .before))
 
-copy-requires : tie.Need-copy-requires
-copy-requires c κs =
+copy-short-requires : tie.Need-copy-short-requires
+copy-short-requires c κs =
     let s = c .before .before .before .before .before .pre in
     let long = run-length (s .0 .1) (s .0 .0) (low-is (c .before)) (high-is (c .before)) in
     (rw long at (s .1), run-inside (s .0 .1) (s .0 .0) (low-is (c .before)) (high-is (c .before)))
@@ -37,7 +37,7 @@ returns : tie.Need-returns
 returns c =
     let t = c .before .before .before .before in
     let s = t .before .before .before .before .pre .0 in
-    named (c .before .before .copy .ensures) (run-texts (s .1) (s .0) (low-is t) (high-is t))
+    named (c .before .before .copy-short .ensures) (run-texts (s .1) (s .0) (low-is t) (high-is t))
 
 pub texts-run64-spec : {M : Type 1} → statement M
 texts-run64-spec =
@@ -49,8 +49,8 @@ texts-run64-spec =
     (λ c. search needs)
     (λ c. search needs)
     (λ c κs. search needs)
-    add-copy
-    sub-copy
-    copy-requires
+    add-copy-short
+    sub-copy-short
+    copy-short-requires
     (λ c. search needs)
     returns)
