@@ -2,3 +2,4 @@
 pub mod Packing
 pub mod Stored
 pub mod Filling
+pub mod RunBits

@@ -1,6 +1,6 @@
 // The bitmaps of kept runs in scratch: for the child of each runs node a bit for each of its rows, whether it is kept.
 ghost use mathlib.Core.Path.{_≡_};
-ghost use Prim.Native.Nat.{_+_, _-_, _≤_, _<_};
+ghost use Prim.Native.Nat.{_+_, _-_, _≤_, _<_, suc};
 ghost use lib.ListN.{length, replicate};
 ghost use Rattle.format.specs.Bytes.{bytesFor, packed, over};
 ghost use Rattle.format.specs.Node.{nodeCount, rows};
@@ -8,8 +8,10 @@ ghost use Rattle.format.specs.Slots.{slotsFrom, wordFrom};
 ghost use Rattle.format.specs.Put.{Wrote};
 ghost use Rattle.format.specs.Answer.{scratchNeeded};
 ghost use Rattle.slots.specs.Source.{Lies};
-ghost use Rattle.nesting.specs.Rows.{keeps, picksOf, Ready};
+ghost use Rattle.nesting.specs.Rows.{keeps, picksOf, Ready, AtRuns, RootRuns};
 ghost use Rattle.fill.specs.Scratch.{Filled};
+use nesting::edges::start_edge;
+use nesting::root::at_root;
 use nesting::rows::keeps;
 use nesting::table::least;
 use nesting::table::node_count;
@@ -74,6 +76,95 @@ pub fn fill_kept(
     place
 }
 
+// At most eight runs of a runs node that keeps the root's rows, as a byte, the first run lowest: which of them have a picked slot. From
+// the last one down: each ends where the run before it in the loop starts.
+fn runs_byte(
+    mask: &[u8],
+    bits: Bits,
+    journal: &[u8],
+    table: &[u32; 640],
+    i: usize,
+    from: usize,
+    to: usize,
+) -> u8
+    requires { ⌜ Lies (now mask) bits ⌝ }
+    requires { ⌜ RootRuns (now journal) (now table) i ⌝ }
+    requires { ⌜ (from ≤ to) × (to ≤ from + 8) × (to ≤ rows (now journal) (suc i)) ⌝ }
+    ensures { λ x. ⌜ x ≡ wordFrom (keeps (now (journal .entry)) (picksOf (now (mask .entry)) bits) (suc i)) (to - from) from ⌝ }
+{
+    let len = bits.len;
+    let mut x: u8 = 0;
+    let mut hi = start_edge(journal, table, i, to, len);
+    let mut r = to;
+    while from < r {
+        r -= 1;
+        let lo = start_edge(journal, table, i, r, len);
+        x = 2 * x + slots::any_within(mask, bits, lo, hi) as u8;
+        hi = lo;
+    }
+    x
+}
+
+// The bitmap of the runs of such a node that have a picked slot: `fill_kept` of its child, by ranges of the mask's slots.
+fn fill_runs(
+    mask: &[u8],
+    bits: Bits,
+    journal: &[u8],
+    table: &[u32; 640],
+    i: usize,
+    scratch: &mut [u8],
+    at: usize,
+) -> usize
+    requires { ⌜ Lies (now mask) bits ⌝ }
+    requires { ⌜ RootRuns (now journal) (now table) i ⌝ }
+    requires { ⌜ at + bytesFor (rows (now journal) (suc i)) ≤ length (now scratch) ⌝ }
+    ensures { λ r. ⌜ Wrote (now (scratch .entry)) at (packed (slotsFrom (keeps (now (journal .entry)) (picksOf (now (mask .entry)) bits) (suc i)) (rows (now (journal .entry)) (suc i)) 0)) (now (scratch .exit)) r ⌝ }
+{
+    let len = table[10 * i + 12] as usize;
+    let mut place = at;
+    let mut r: usize = 0;
+    while r < len {
+        let next = least(len, r + 8);
+        scratch[place] = runs_byte(mask, bits, journal, table, i, r, next);
+        place += 1;
+        r = next;
+    }
+    place
+}
+
+// The bitmap of the rows that the child of runs node i keeps.
+fn fill_child(
+    mask: &[u8],
+    bits: Bits,
+    journal: &[u8],
+    table: &[u32; 640],
+    parents: &[u32; 64],
+    counts: &[usize; 64],
+    i: usize,
+    scratch: &mut [u8],
+    at: usize,
+) -> usize
+    requires { ⌜ Lies (now mask) bits ⌝ }
+    requires { ⌜ Ready (now journal) (picksOf (now mask) bits) (now table) (now parents) (now counts) (i + 1) ⌝ }
+    requires { ⌜ AtRuns (now journal) (now table) i × (at + bytesFor (rows (now journal) (i + 1)) ≤ length (now scratch)) ⌝ }
+    ensures { λ r. ⌜ Wrote (now (scratch .entry)) at (packed (slotsFrom (keeps (now (journal .entry)) (picksOf (now (mask .entry)) bits) (i + 1)) (rows (now (journal .entry)) (i + 1)) 0)) (now (scratch .exit)) r ⌝ }
+{
+    if at_root(journal, table, parents, i) {
+        return fill_runs(mask, bits, journal, table, i, scratch, at);
+    }
+    fill_kept(
+        mask,
+        bits,
+        journal,
+        table,
+        parents,
+        counts,
+        i + 1,
+        scratch,
+        at,
+    )
+}
+
 // The bitmaps of all children of runs nodes, one after another from the front; where each child's starts, and 0 for
 // the other nodes.
 pub fn fill_all(
@@ -99,7 +190,17 @@ pub fn fill_all(
         i += 1;
         if table[10 * node] == RUNS {
             places[i] = at;
-            at = fill_kept(mask, bits, journal, table, parents, counts, i, scratch, at);
+            at = fill_child(
+                mask,
+                bits,
+                journal,
+                table,
+                parents,
+                counts,
+                node,
+                scratch,
+                at,
+            );
         }
     }
     places

@@ -31,7 +31,7 @@ use Rattle.slots.specs.Node.{bitsOf}
 use Rattle.slots.proofs.Masked.{mask-picks}
 use Rattle.predicate.proofs.Slips as mask
 use Rattle.nesting.specs.Rows.{picksOf, Ready, Table, Counts}
-use Rattle.nesting.proofs.Picks.{picks-sifted}
+use Rattle.nesting.proofs.Picks.{picks-sifted, count-picks}
 use Rattle.filter.specs.Call.{Accepted, Listed, Roomy, Routed}
 
 -- ---- a count that is not stated is not wrong
@@ -115,6 +115,10 @@ module _ {c : Call} {bits : Bits} {kept : ℕ} {route : Route} (f : Listed c bit
   pub short-bits : bits .len ≤ rows (c .journal) 0
   unfolding tooLong
   short-bits = rw (length-is (f .accepted)) (ltb-false _ _ (f .fits))
+
+  -- the count is that of the rows that the bits pick
+  pub kept-picks : kept ≡ length (picksOf (c .mask) bits)
+  kept-picks = mask.kept-is (f .accepted .mask) ∙ count-picks (c .mask) bits
 
   -- nothing is counted yet; the counts
   pub ready-first : {table parents : List ℕ} → Table (c .journal) table → Parents (c .journal) parents → Ready (c .journal) (picksOf (c .mask) bits) table parents [] 0

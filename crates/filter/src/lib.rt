@@ -155,7 +155,7 @@ fn filter_listed(
         };
     }
     let parents = parents_of(journal);
-    let counts = count_all(mask, bits, journal, &table, &parents);
+    let counts = count_all(mask, bits, kept, journal, &table, &parents);
     let size = measure(mask, bits, journal, &table, &parents, &counts);
     if too_long(output.len(), size) {
         return Answer::Refused {

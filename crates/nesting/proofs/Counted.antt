@@ -1,5 +1,5 @@
 -- How many rows a node keeps by its parent's kind, and how many data bytes it has by its own. Assumes nothing.
-use Prim.Native.Nat.{ℕ, _+_, _*_, _<_, _≤_}
+use Prim.Native.Nat.{ℕ, suc, _+_, _*_, _<_, _≤_}
 use mathlib.Core.List.{List, [], _∷_, map}
 use mathlib.Core.Path.{_≡_, refl, sym, ap, _∙_}
 use native.Mathlib.Omega.{arith}
@@ -12,9 +12,9 @@ use Rattle.format.specs.Kept.{keptRows, carried, cells, ownBytes}
 use Rattle.format.specs.Write.{dataLength}
 use Rattle.format.specs.Accepted.{Shares, Carries, Offsets}
 use Rattle.format.proofs.Laws.{length-table, kept-root}
-use Rattle.nesting.specs.Rows.{Ready}
-use Rattle.nesting.proofs.ByKind.{of-struct, of-union, not-shared, of-others, of-bytes32, of-bytes64, is-bytes32, is-bytes64, kind-at, rows-at}
-use Rattle.nesting.proofs.Tree.{kept-shared, kept-carried}
+use Rattle.nesting.specs.Rows.{Ready, AtRuns, Counts}
+use Rattle.nesting.proofs.ByKind.{of-struct, of-union, of-runs, not-shared, of-others, of-bytes32, of-bytes64, is-bytes32, is-bytes64, kind-at, rows-at}
+use Rattle.nesting.proofs.Tree.{kept-shared, kept-carried, run-child}
 
 carried-none : (rs : List ℕ) (n : ℕ) → length rs ≡ 0 → 0 ≡ length (carried rs n)
 unfolding carried
@@ -28,6 +28,11 @@ carried-every (r ∷ rs) n e = sym (length-table (λ k. k) n)
 
 pub counted-root : (b root : List ℕ) (node : ℕ) → node ≡ 0 → length root ≡ length (keptRows b root node)
 counted-root b root node e = rw (e, kept-root b root)
+
+-- the root's count stands first
+pub counted-first : (b root counts : List ℕ) (kept : ℕ) → getD counts 0 0 ≡ kept → kept ≡ length root → Counts b root 1 counts
+counted-first b root counts kept e k =
+    record { at = λ i l. let z : i ≡ 0 = omega arith in rw z (e ∙ k ∙ counted-root b root 0 refl) }
 
 module _ {b root table parents counts : List ℕ} {node : ℕ} (ready : Ready b root table parents counts node) (h : node < nodeCount b) (some : 0 < node) where
   is-parent : getD parents node 0 ≡ parent b node
@@ -64,6 +69,23 @@ module _ {b root table parents counts : List ℕ} {node : ℕ} (ready : Ready b 
 
   pub under-union : getD table (10 * getD parents node 0) 0 ≡ 11 → getD counts (getD parents node 0) 0 ≡ length (keptRows b root node)
   under-union e = counted-shared (of-union b (getD parents node 0) (sym above-kind ∙ e))
+
+  -- below a runs node
+  module _ (e : getD table (10 * getD parents node 0) 0 ≡ 9) where
+    above-runs : kind b (getD parents node 0) ≡ Runs
+    above-runs = of-runs b (getD parents node 0) (sym above-kind ∙ e)
+
+    pub runs-at : AtRuns b table (getD parents node 0)
+    runs-at = record { sound = ready .sound; tabled = ready .tabled; inside = omega (arith, above-lt); isRuns = above-runs }
+
+    is-child : node ≡ suc (getD parents node 0)
+    is-child = rw is-parent (run-child b root (ready .sound) node some h (rw is-parent at above-runs))
+
+    pub runs-ready : Ready b root table parents counts (suc (getD parents node 0))
+    runs-ready = rw (← is-child) ready
+
+    pub runs-counted : (n : ℕ) → n ≡ length (keptRows b root (suc (getD parents node 0))) → n ≡ length (keptRows b root node)
+    runs-counted n q = q ∙ ap (λ (k : ℕ). length (keptRows b root k)) (sym is-child)
 
   module _ (r : getD table (10 * getD parents node 0) 0 ≡ 9 → ⊥) (s : getD table (10 * getD parents node 0) 0 ≡ 10 → ⊥) (u : getD table (10 * getD parents node 0) 0 ≡ 11 → ⊥) where
     carrier : Carries (kind b (getD parents node 0))

@@ -13,3 +13,4 @@ pub mod NodeEnd
 pub mod Scratch
 pub mod Spanned
 pub mod Rooted
+pub mod RunEdges

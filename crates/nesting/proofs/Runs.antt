@@ -48,7 +48,8 @@ module _ (b : List ℕ) (i : ℕ) where
   unfolding inRun within
   in-run j r = rw (zero-add r) (ap₂ _&&_ (leb-sub (runStart b i j) (skip b i) r) (ltb-sub (skip b i) r (runEnd b i j)))
 
-  group : (rs : List ℕ) (j : ℕ) → ltb 0 (groupSize b i rs j) ≡ between rs (rowsFrom j) (rowsTo j)
+  -- a run is kept if some kept row lies in its rows
+  pub group : (rs : List ℕ) (j : ℕ) → ltb 0 (groupSize b i rs j) ≡ between rs (rowsFrom j) (rowsTo j)
   unfolding groupSize countIf between
   group [] j = refl
   group (r ∷ rs) j = one-more (inRun b i j r) (countIf (inRun b i j) rs) ∙ ap₂ _||_ (in-run j r) (group rs j)

@@ -1,12 +1,12 @@
 -- The kept rows of a node as a test, the question whether some of them lie in a range, and arrays filled node by node. Assumes nothing.
-use Prim.Native.Nat.{ℕ, suc, _+_, _*_, _<_}
+use Prim.Native.Nat.{ℕ, suc, _+_, _-_, _*_, _<_, min}
 use mathlib.Core.Bool.{Bool, true, false, _||_}
 use mathlib.Core.List.{List, [], _∷_}
 use mathlib.Core.Path.{_≡_}
 use lib.ListN.{length}
 use Rattle.format.specs.Bytes.{le, chosen, within}
 use Rattle.format.specs.declared.Kind.the-variants.{Runs}
-use Rattle.format.specs.Node.{tableStart, nodeCount, kind, rows, parent}
+use Rattle.format.specs.Node.{tableStart, nodeCount, kind, rows, skip, runStart, parent}
 use Rattle.format.specs.Accepted.{Sound, Shares}
 use Rattle.slots.specs.declared.Bits.{Bits}
 use Rattle.slots.specs.Source.{slotOf}
@@ -75,3 +75,12 @@ pub record Level (b : List ℕ) (node t : ℕ) : Type 0 where
 pub record Top (b : List ℕ) (node t : ℕ) : Type 0 where
   pub level : Level b node t
   pub last : 0 < t → Shares (kind b (parent b t)) → ⊥
+
+-- where run j of runs node i starts among len slots: after skip, and not past the last. It ends where run j + 1 starts
+unfoldable pub edge : List ℕ → ℕ → ℕ → ℕ → ℕ
+edge b i len j = min (runStart b i j - skip b i) len
+
+-- node i is a runs node that keeps the root's rows
+pub record RootRuns (b table : List ℕ) (i : ℕ) : Type 0 where
+  pub runs : AtRuns b table i
+  pub same : (root : List ℕ) → keptRows b root i ≡ root

@@ -27,21 +27,24 @@ use crate::table::node_count;
 use pack::read::kind_of;
 use slots::Bits;
 
-// How many rows each node keeps.
+// How many rows each node keeps. The root keeps the picked slots, which are counted before: `kept`.
 pub fn count_all(
     mask: &[u8],
     bits: Bits,
+    kept: usize,
     journal: &[u8],
     table: &[u32; 640],
     parents: &[u32; 64],
 ) -> [usize; 64]
     requires { ⌜ Lies (now mask) bits ⌝ }
     requires { ⌜ Ready (now journal) (picksOf (now mask) bits) (now table) (now parents) [] 0 ⌝ }
+    requires { ⌜ kept ≡ length (picksOf (now mask) bits) ⌝ }
     ensures { λ c. ⌜ Counts (now (journal .entry)) (picksOf (now (mask .entry)) bits) (nodeCount (now (journal .entry))) c ⌝ }
 {
     let mut counts = [0usize; 64];
+    counts[0] = kept;
     let n = node_count(journal);
-    let mut i: usize = 0;
+    let mut i: usize = 1;
     while i < n {
         counts[i] = count_kept(mask, bits, journal, table, parents, &counts, i);
         i += 1;

@@ -1,12 +1,14 @@
 // Which rows a node keeps, asked by climbing to the root: no buffer is filled to know it.
 ghost use mathlib.Core.Path.{_≡_};
 ghost use mathlib.Core.Bool.{true};
-ghost use Prim.Native.Nat.{_<_};
+ghost use Prim.Native.Nat.{_<_, suc};
 ghost use lib.ListN.{length};
 ghost use Rattle.format.specs.Node.{nodeCount, rows};
 ghost use Rattle.format.specs.Kept.{keptRows};
 ghost use Rattle.slots.specs.Source.{Lies};
-ghost use Rattle.nesting.specs.Rows.{between, keeps, picksOf, Ready};
+ghost use Rattle.nesting.specs.Rows.{between, keeps, picksOf, Ready, AtRuns};
+use crate::edges::count_runs;
+use crate::root::at_root;
 use crate::table::RUNS;
 use crate::table::STRUCT;
 use crate::table::UNION;
@@ -115,6 +117,27 @@ fn count_rows(
     n
 }
 
+// How many rows of a runs node's child are kept: by ranges of the mask's slots where the runs node, node p, keeps the root's rows.
+fn count_child(
+    mask: &[u8],
+    bits: Bits,
+    journal: &[u8],
+    table: &[u32; 640],
+    parents: &[u32; 64],
+    counts: &[usize; 64],
+    p: usize,
+) -> usize
+    requires { ⌜ Lies (now mask) bits ⌝ }
+    requires { ⌜ Ready (now journal) (picksOf (now mask) bits) (now table) (now parents) (now counts) (suc p) ⌝ }
+    requires { ⌜ AtRuns (now journal) (now table) p ⌝ }
+    ensures { λ n. ⌜ n ≡ length (keptRows (now (journal .entry)) (picksOf (now (mask .entry)) bits) (suc p)) ⌝ }
+{
+    if at_root(journal, table, parents, p) {
+        return count_runs(mask, bits, journal, table, p);
+    }
+    count_rows(mask, bits, journal, table, parents, counts, p + 1)
+}
+
 // How many rows of the node are kept, where this is known of the nodes before it: only a child of runs is looked at row by row.
 pub fn count_kept(
     mask: &[u8],
@@ -142,7 +165,7 @@ pub fn count_kept(
         return counts[p];
     }
     if k == RUNS {
-        return count_rows(mask, bits, journal, table, parents, counts, node);
+        return count_child(mask, bits, journal, table, parents, counts, p);
     }
     if counts[p] == 0 {
         return 0;

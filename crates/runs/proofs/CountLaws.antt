@@ -1,5 +1,5 @@
 -- Laws of counts over a range of slots: word by word, and of the slots that all fail or all pass. Over any test p. Assumes nothing.
-use Prim.Native.Nat.{ℕ, _+_, _-_, _%_, _^_, _≤_}
+use Prim.Native.Nat.{ℕ, _+_, _-_, _≤_}
 use mathlib.Core.Bool.{Bool, true, false}
 use mathlib.Core.Path.{_≡_, refl, ap, _∙_}
 use native.Mathlib.Omega.{arith}
@@ -7,16 +7,12 @@ use lib.Count.{ones}
 use lib.ListN.{length}
 use Rattle.format.specs.Slots.{wordFrom, picksFrom}
 use Rattle.format.proofs.SlotLaws.{picks-none, picks-all, length-up, count-cat, count-le}
-use Rattle.format.proofs.WordLaws.{from-low, from-ones}
+use Rattle.format.proofs.WordLaws.{from-ones}
 
 module _ (p : ℕ → Bool) where
-  -- the low n bits of a word are the first n slots
-  pub first-slots : (w n i : ℕ) → n ≤ w → wordFrom p w i % 2 ^ n ≡ wordFrom p n i
-  first-slots w n i h = let e : w ≡ n + (w - n) = omega arith in rw e (from-low p n (w - n) i)
-
   -- x is the word of the m slots from i on
   module _ (m i x : ℕ) (e : x ≡ wordFrom p m i) where
-    ones-picks : ones x ≡ length (picksFrom p m i)
+    pub ones-picks : ones x ≡ length (picksFrom p m i)
     ones-picks = ap ones e ∙ from-ones p m i
 
     pub ones-few : ones x ≤ m

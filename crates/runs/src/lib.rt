@@ -48,8 +48,8 @@ fn window(s: &[u8], b: Bits, i: usize, n: usize) -> u64
     if n < 64 { x % (1 << n) } else { x }
 }
 
-// How many slots of [lo, hi) are picked. Up to 64 slots are one word.
-pub fn count_in(s: &[u8], b: Bits, lo: usize, hi: usize) -> usize
+// How many slots of [lo, hi) are picked, word by word.
+fn count_words(s: &[u8], b: Bits, lo: usize, hi: usize) -> usize
     requires { ⌜ Lies (now s) b ⌝ }
     requires { ⌜ (lo ≤ hi) × (hi ≤ b .len) ⌝ }
     ensures { λ r. ⌜ r ≡ length (picksFrom (slotOf (now (s .entry)) b) (hi - lo) lo) ⌝ }
@@ -61,6 +61,21 @@ pub fn count_in(s: &[u8], b: Bits, lo: usize, hi: usize) -> usize
         i += 64;
     }
     n + u64::count_ones(window(s, b, i, hi - i)) as usize
+}
+
+// How many slots of [lo, hi) are picked. Fewer than 64 slots are one word: small enough to be compiled into its callers' loops.
+pub fn count_in(s: &[u8], b: Bits, lo: usize, hi: usize) -> usize
+    requires { ⌜ Lies (now s) b ⌝ }
+    requires { ⌜ (lo ≤ hi) × (hi ≤ b .len) ⌝ }
+    ensures { λ r. ⌜ r ≡ length (picksFrom (slotOf (now (s .entry)) b) (hi - lo) lo) ⌝ }
+{
+    let len = b.len;
+    if hi - lo < 64 {
+        if lo + 72 <= len {
+            return u64::count_ones(slots::window_in(s, b, lo, hi - lo)) as usize;
+        }
+    }
+    count_words(s, b, lo, hi)
 }
 
 // How many rows of [lo, hi) a selection keeps. The source is read only where bits say which.

@@ -1,17 +1,19 @@
 -- What a scan answers, by the facts of the slots: the first run, and whether any slot of a range passes. Over any test p. Assumes nothing.
 use Prim.Native.Nat.{ℕ, zero, suc, _+_, _-_, _≤_, _<_}
-use mathlib.Core.Bool.{Bool, true, false}
+use mathlib.Core.Bool.{Bool, true, false, not}
 use mathlib.Core.List.{List, [], _∷_}
-use mathlib.Core.Logic.{dite}
+use mathlib.Core.Logic.{dite, ⊎-elim}
 use mathlib.Core.Path.{_≡_, refl, sym, ap, _∙_}
 use native.Mathlib.Decide.{decLt}
+use native.Mathlib.Nat.{eq-zero-or-pos}
 use native.Mathlib.Omega.{arith}
-use borrow.Author.Tests.{lt-ltb, le-ltb}
-use lib.Dec.{ltb}
+use borrow.Author.Tests.{lt-ltb, le-ltb, eq-eqb, ne-eqb}
+use lib.Dec.{eqb, ltb}
 use Rattle.format.specs.Bytes.{anyBelow}
-use Rattle.format.specs.Slots.{runsFrom, All, Sought, FirstRun}
-use Rattle.format.proofs.Laws.{any-found}
+use Rattle.format.specs.Slots.{wordFrom, runsFrom, All, Sought, FirstRun}
+use Rattle.format.proofs.Laws.{any-found, any-none}
 use Rattle.format.proofs.SlotLaws.{all-join, all-less, runs-next, runs-none, Next, runs-first}
+use Rattle.format.proofs.WordLaws.{from-none, from-zero}
 use Rattle.slots.specs.declared.Run.the-variants.{Span, End}
 use Rattle.slots.specs.Source.{anyIn, firstRun}
 
@@ -64,3 +66,30 @@ module _ (p : ℕ → Bool) {lo hi : ℕ} where
       dite (decLt r end)
       (λ l. lt-ltb r end l ∙ sym (any-one-in r (f .low) (omega arith) (f .here l)))
       (λ n. le-ltb r end (omega arith) ∙ sym (any-none-in (all-join (all-less (omega arith) (f .passed)) past)))
+
+-- ---- by the word of the slots of [lo, hi)
+
+module _ (p : ℕ → Bool) (lo hi x : ℕ) (h : lo ≤ hi) (e : x ≡ wordFrom p (hi - lo) lo) where
+  to : lo + (hi - lo) ≡ hi
+  to = omega arith
+
+  word-none : x ≡ 0 → anyIn p lo hi ≡ false
+  word-none z = any-none-in p (rw to at (from-zero p (hi - lo) lo (sym e ∙ z)))
+
+  none-word : anyIn p lo hi ≡ false → x ≡ 0
+  none-word n = e ∙ from-none p (hi - lo) lo (record { at = λ j l k. slot j l k })
+    where
+      slot : (j : ℕ) → lo ≤ j → j < lo + (hi - lo) → p j ≡ false
+      slot j l k =
+          let m : lo + (j - lo) ≡ j = omega arith in
+          rw m at (any-none (λ k. p (lo + k)) (hi - lo) (j - lo) (omega arith) n)
+
+  pub word-any : not (eqb x 0) ≡ anyIn p lo hi
+  word-any =
+      ⊎-elim (λ z. rw (eq-eqb x 0 z, word-none z))
+      (λ l. rw (ne-eqb x 0 (λ z. omega arith)) (go (anyIn p lo hi) refl l))
+      (eq-zero-or-pos x)
+    where
+      go : (t : Bool) → anyIn p lo hi ≡ t → 0 < x → true ≡ t
+      go true q l = refl
+      go false q l = absurd (omega (arith, none-word q))

@@ -1,6 +1,6 @@
 -- A source's slots by the bits that are read, and its words. Assumes nothing.
 use Prim.Native.Nat.{ℕ, _+_, _-_, _*_, _%_, _^_, _≤_, _<_}
-use mathlib.Core.Bool.{true, false, and-true}
+use mathlib.Core.Bool.{Bool, true, false, and-true}
 use mathlib.Core.List.{List}
 use mathlib.Core.Path.{_≡_, sym, ap, _∙_}
 use native.Mathlib.Nat.{add-assoc}
@@ -9,9 +9,13 @@ use lib.Bits.{bitAnd}
 use Rattle.format.specs.Bytes.{bitIn, bitAt}
 use Rattle.format.specs.Slots.{wordFrom, picksFrom}
 use Rattle.format.proofs.SlotLaws.{upTo-is, upTo-past, upTo-in, picks-upTo}
-use Rattle.format.proofs.WordLaws.{from-ext, from-shift, from-and, from-full, from-cut}
+use Rattle.format.proofs.WordLaws.{from-ext, from-shift, from-and, from-full, from-cut, from-low}
 use Rattle.slots.specs.declared.Bits.{Bits}
 use Rattle.slots.specs.Source.{bothSet, slotOf}
+
+-- the low n bits of a word are the first n slots
+pub first-slots : (p : ℕ → Bool) (w n i : ℕ) → n ≤ w → wordFrom p w i % 2 ^ n ≡ wordFrom p n i
+first-slots p w n i h = let e : w ≡ n + (w - n) = omega arith in rw e (from-low p n (w - n) i)
 
 -- ---- slots, and none past the last
 

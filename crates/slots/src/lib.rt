@@ -119,6 +119,20 @@ fn last_word(s: &[u8], b: Bits, w: usize) -> u64
     if left < 64 { x % (1 << left) } else { x }
 }
 
+// The 64 slots from i on, low bit first, where nine bytes from theirs on lie in the slice: with no test of a read.
+fn slots64_in(s: &[u8], b: Bits, i: usize) -> u64
+    requires { ⌜ Lies (now s) b ⌝ }
+    requires { ⌜ i + 72 ≤ b .len ⌝ }
+    ensures { λ r. ⌜ r ≡ wordFrom (slotOf (now (s .entry)) b) 64 i ⌝ }
+{
+    let k = b.skip + i;
+    let x = bits64_in(s, 8 * b.values_at + k);
+    if b.has_validity {
+        return x & bits64_in(s, 8 * b.validity_at + k);
+    }
+    x
+}
+
 // `word` where another whole word follows, so that no read can leave the slice: small enough to be compiled into its callers' loops,
 // which choose between the two.
 pub fn word_in(s: &[u8], b: Bits, w: usize) -> u64
@@ -126,12 +140,16 @@ pub fn word_in(s: &[u8], b: Bits, w: usize) -> u64
     requires { ⌜ 64 * w + 128 ≤ b .len ⌝ }
     ensures { λ r. ⌜ r ≡ wordAt (now (s .entry)) b w ⌝ }
 {
-    let k = b.skip + 64 * w;
-    let x = bits64_in(s, 8 * b.values_at + k);
-    if b.has_validity {
-        return x & bits64_in(s, 8 * b.validity_at + k);
-    }
-    x
+    slots64_in(s, b, 64 * w)
+}
+
+// The n slots from i on, low bit first, wherever they start; also without a test of a read.
+pub fn window_in(s: &[u8], b: Bits, i: usize, n: usize) -> u64
+    requires { ⌜ Lies (now s) b ⌝ }
+    requires { ⌜ (i + 72 ≤ b .len) × (n < 64) ⌝ }
+    ensures { λ r. ⌜ r ≡ wordFrom (slotOf (now (s .entry)) b) n i ⌝ }
+{
+    slots64_in(s, b, i) % (1 << n)
 }
 
 // Slots 64 w to 64 w + 63, low bit first, zero-filled past the last slot.
@@ -270,4 +288,19 @@ pub fn any_picked(s: &[u8], b: Bits, lo: usize, hi: usize) -> bool
         return false;
     }
     next_row(s, b, lo, end) < end
+}
+
+// Whether any slot of [lo, hi) is picked, where the range lies in the source: a range of fewer than 64 slots is one word.
+pub fn any_within(s: &[u8], b: Bits, lo: usize, hi: usize) -> bool
+    requires { ⌜ Lies (now s) b ⌝ }
+    requires { ⌜ (lo ≤ hi) × (hi ≤ b .len) ⌝ }
+    ensures { λ r. ⌜ r ≡ anyIn (slotOf (now (s .entry)) b) lo hi ⌝ }
+{
+    let len = b.len;
+    if hi - lo < 64 {
+        if lo + 72 <= len {
+            return window_in(s, b, lo, hi - lo) != 0;
+        }
+    }
+    any_picked(s, b, lo, hi)
 }

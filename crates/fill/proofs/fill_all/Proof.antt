@@ -7,6 +7,7 @@ use Rattle.format.proofs.Put.{same-size}
 use Rattle.nesting.specs.Rows.{picksOf}
 use Rattle.nesting.proofs.NodeEnd.{ready-at}
 use Rattle.nesting.proofs.Scratch.{child-inside}
+use Rattle.fill.proofs.RunBits.{at-runs}
 use Rattle.fill.proofs.Filling.{FilledTo, filled-none, next-fits, filled-more, filled-same, filled-all}
 use Rattle.fill.proofs.fill_all.Statement.{statement}
 use Rattle.fill.proofs.fill_all.Tie as tie
@@ -41,14 +42,14 @@ mul-places c = omega (arith, c .before .before .before .before .before .before .
 array-write-places : tie.Need-array-write-places Inv-loop μ-loop
 array-write-places c = omega (arith, child-inside (c .before .before .before .before .before .before .before .before .pre .1 .0 .sound) (c .before .before .before .before .before .before .before .before .pre .1 .0 .tabled) (omega arith) (c .if1 .taken), c .before .before .before .before .before .before .before .before .pre .1 .0 .sound .shape .few)
 
-fill-kept-requires : tie.Need-fill-kept-requires Inv-loop μ-loop
-fill-kept-requires c κs =
+fill-child-requires : tie.Need-fill-child-requires Inv-loop μ-loop
+fill-child-requires c κs =
     let q = c .before .before .before .before .before .before .before .before .before .pre in
     let r = q .1 .0 in
     let l = c .before .before .before .before .loop in
     let e = c .before .if1 .taken in
     let inside = child-inside (r .sound) (r .tabled) (omega arith) e in
-    (q .0, (ready-at r (omega arith), (inside, next-fits (r .sound) (r .tabled) (omega arith) e (q .1 .1) (l .inv .2))))
+    (q .0, (ready-at r (omega arith), (at-runs _ (r .sound) (r .tabled) _ (omega arith) e, next-fits (r .sound) (r .tabled) (omega arith) e (q .1 .1) (l .inv .2))))
 
 loop-less : tie.Need-loop-less Inv-loop μ-loop
 loop-less c = omega arith
@@ -58,7 +59,7 @@ loop-again c =
     let q = c .before .before .before .before .before .before .before .before .before .before .before .before .pre in
     let r = q .1 .0 in
     let l = c .before .before .before .before .before .before .before .loop in
-    (omega arith, simp length-set (l .inv .1), filled-more (r .sound) (r .tabled) (omega arith) (c .before .before .before .before .if1 .taken) (q .1 .1) (l .inv .2) (l .inv .1) (c .before .before .fill-kept .ensures))
+    (omega arith, simp length-set (l .inv .1), filled-more (r .sound) (r .tabled) (omega arith) (c .before .before .before .before .if1 .taken) (q .1 .1) (l .inv .2) (l .inv .1) (c .before .before .fill-child .ensures))
 
 loop-less-2 : tie.Need-loop-less-2 Inv-loop μ-loop
 loop-less-2 c = omega arith
@@ -91,7 +92,7 @@ fill-all-spec =
     element-copy-out-if1
     mul-places
     array-write-places
-    fill-kept-requires
+    fill-child-requires
     loop-less
     loop-again
     loop-less-2

@@ -1,7 +1,7 @@
 -- `filter::filter_listed` meets its contract: 13, 14, or the extract. Assumes nothing.
 use mathlib.Core.Path.{sym, _∙_}
 use borrow.Author.Needs.{needs}
-use Rattle.filter.proofs.Ways.{journal-sound, bits-lie, short-bits, ready-first, ready-all, short-scratch, short-output}
+use Rattle.filter.proofs.Ways.{journal-sound, bits-lie, short-bits, kept-picks, ready-first, ready-all, short-scratch, short-output}
 use Rattle.filter.proofs.filter_listed.Statement.{statement}
 use Rattle.filter.proofs.filter_listed.Tie as tie
 
@@ -18,7 +18,7 @@ parents-of-requires : tie.Need-parents-of-requires
 parents-of-requires c κs = journal-sound (c .before .before .before .before .before .before .before .before .before .pre) .shape .few
 
 count-all-requires : tie.Need-count-all-requires
-count-all-requires c κs = let p = c .before .before .before .before .before .before .before .before .before .before .before .before .pre in (bits-lie p, ready-first p (c .before .before .before .before .before .before .table-of .ensures) (c .before .before .parents-of .ensures))
+count-all-requires c κs = let p = c .before .before .before .before .before .before .before .before .before .before .before .before .pre in (bits-lie p, (ready-first p (c .before .before .before .before .before .before .table-of .ensures) (c .before .before .parents-of .ensures), kept-picks p))
 
 measure-requires : tie.Need-measure-requires
 measure-requires c κs =

@@ -7,8 +7,7 @@ use lib.Pow.{pow-pos}
 use Rattle.format.specs.Slots.{wordFrom}
 use Rattle.format.proofs.WordLaws.{one-shl}
 use Rattle.slots.specs.Source.{slotOf}
-use Rattle.slots.proofs.Reading.{word-full}
-use Rattle.runs.proofs.CountLaws.{first-slots}
+use Rattle.slots.proofs.Reading.{word-full, first-slots}
 use Rattle.runs.proofs.window.Statement.{statement}
 use Rattle.runs.proofs.window.Tie as tie
 

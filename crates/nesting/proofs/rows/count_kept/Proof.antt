@@ -3,7 +3,7 @@ use mathlib.Core.Path.{_∙_}
 use native.Mathlib.Omega.{arith}
 use Rattle.nesting.proofs.Picks.{count-picks}
 use Rattle.nesting.proofs.Sieve.{len-fits}
-use Rattle.nesting.proofs.Counted.{counted-root, above-few, under-struct, under-union, under-empty, under-filled}
+use Rattle.nesting.proofs.Counted.{counted-root, above-few, under-struct, under-union, runs-at, runs-ready, runs-counted, under-empty, under-filled}
 use borrow.Author.Needs.{needs}
 use Rattle.nesting.proofs.rows.count_kept.Statement.{statement}
 use Rattle.nesting.proofs.rows.count_kept.Tie as tie
@@ -50,11 +50,15 @@ element-copy-out-result-2 c = above-few (c .before .before .before .before .befo
 returns-3 : tie.Need-returns-3
 returns-3 c = under-union (c .before .before .before .before .before .before .before .before .pre .1 .0) (c .before .before .before .before .before .before .before .before .pre .1 .1) (omega arith) (c .before .if3 .taken)
 
-count-rows-requires : tie.Need-count-rows-requires
-count-rows-requires c κs = search needs
+count-child-requires : tie.Need-count-child-requires
+count-child-requires c κs =
+    let q = c .before .before .before .before .before .before .before .before .pre in
+    (q .0, (runs-ready (q .1 .0) (q .1 .1) (omega arith) (c .if4 .taken), runs-at (q .1 .0) (q .1 .1) (omega arith) (c .if4 .taken)))
 
 returns-4 : tie.Need-returns-4
-returns-4 c = search needs
+returns-4 c =
+    let q = c .before .before .before .before .before .before .before .before .before .pre in
+    runs-counted (q .1 .0) (q .1 .1) (omega arith) (c .before .if4 .taken) _ (c .count-child .ensures)
 
 mul-if5 : tie.Need-mul-if5
 mul-if5 c = omega (arith, above-few (c .before .before .before .before .before .before .before .before .pre .1 .0) (c .before .before .before .before .before .before .before .before .pre .1 .1) (omega arith))
@@ -101,7 +105,7 @@ count-kept-spec =
     mul-result-2
     element-copy-out-result-2
     returns-3
-    count-rows-requires
+    count-child-requires
     returns-4
     mul-if5
     element-copy-out-if5

@@ -1,12 +1,12 @@
--- `slots::word_in` meets its contract: what `both64` gives, and no slot is cut. Assumes nothing.
+-- `slots::slots64_in` meets its contract: what `both64` gives, and no slot is cut. Assumes nothing.
 use Prim.Native.Nat.{_+_, _*_, _≤_}
 use mathlib.Core.Path.{_∙_}
 use native.Mathlib.Omega.{arith}
 use borrow.Author.Needs.{needs}
 use lib.ListN.{length}
 use Rattle.slots.proofs.Reading.{word-plain, word-valid, word-full}
-use Rattle.slots.proofs.word_in.Statement.{statement}
-use Rattle.slots.proofs.word_in.Tie as tie
+use Rattle.slots.proofs.slots64_in.Statement.{statement}
+use Rattle.slots.proofs.slots64_in.Tie as tie
 
 -- where there is a bitmap, its bits lie in the slice
 room : (c : tie.Then1) →
@@ -19,11 +19,10 @@ returns c =
     rw (c .before .before .before .bits64-in .ensures, c .bits64-in2 .ensures)
     (word-valid _ _ 64 _ (c .before .before .if1 .taken) ∙ word-full _ _ 64 _ (omega arith))
 
-pub word-in-spec : {M : Type 1} → statement M
-word-in-spec =
+pub slots64-in-spec : {M : Type 1} → statement M
+slots64-in-spec =
     tie.close
     (tie.spec
-    (λ c. search needs)
     (λ c. search needs)
     (λ c. search needs)
     (λ c. search needs)
