@@ -86,8 +86,8 @@ fn word_bytes(journal: &[u8], first: usize, w: usize, base: usize, word: u64) ->
     n
 }
 
-// How many data bytes the picked rows of a node with offsets of w bytes have, word by word: at 50 % the runs of a word take a tenth of the time that
-// a search for each run takes.
+// How many data bytes the picked rows of a node with offsets of w bytes have: word by word of the mask, and by the runs within a word, so that no run
+// is searched for bit by bit.
 pub fn bytes_at_root(
     mask: &[u8],
     bits: Bits,
