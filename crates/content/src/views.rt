@@ -16,8 +16,8 @@ fn least(a: u32, b: u32) -> u32
 }
 
 // What is wrong with view r, told by the top bit: its length is negative, or above 12 and its range leaves the data buffer that it names. By signs of
-// differences, with no branch and no comparison (1.25 ns a view against 1.85 by comparisons). The rows of the data buffers stand in the
-// table, 40 bytes apart. They are read for any view: a buffer that is not there reads the place behind.
+// differences, with no branch and no comparison: quicker in a model of the loop, but in the benchmark no gain over comparisons was seen. The rows of the
+// data buffers stand in the table, 40 bytes apart. They are read for any view: a buffer that is not there reads the place behind.
 fn view_sign(s: &[u8], at: usize, r: usize, kids: u32, table: usize) -> u64
     requires { ⌜ (at + 16 * r + 16 ≤ length (now s)) × Lengths (now s) kids table ⌝ }
     ensures { λ t. ⌜ leb (2 ^ 63) t ≡ badViewAt (now (s .entry)) at kids table r ⌝ }
