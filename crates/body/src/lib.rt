@@ -15,7 +15,7 @@ ghost use Rattle.nodes.specs.Place.{rowsBy, Picked, Kinded};
 ghost use Rattle.regions.specs.Region.{Given};
 ghost use Rattle.body.specs.Added.{dataSize, columnOf, Added, Chosen, Written};
 use format::Kind;
-use nesting::data::any_null;
+use measure::data::any_null;
 use pack::Node;
 use pack::read::child_rows;
 use pack::read::kind_of;

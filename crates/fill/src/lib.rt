@@ -11,10 +11,10 @@ ghost use Rattle.slots.specs.Source.{Lies};
 ghost use Rattle.nesting.specs.Rows.{keeps, picksOf, Ready, AtRuns, RootRuns};
 ghost use Rattle.fill.specs.Scratch.{Filled};
 use nesting::edges::start_edge;
-use nesting::root::at_root;
 use nesting::rows::keeps;
 use nesting::table::least;
 use nesting::table::node_count;
+use nesting::top::at_root;
 use slots::Bits;
 
 // Kind by number: the one whose child has a bitmap in scratch.

@@ -17,9 +17,9 @@ ghost use Rattle.filter.specs.Call.{Accepted, Listed, Roomy, Routed, Sel
 use format::Answer;
 use format::Pack;
 use format::Route;
-use nesting::measure::count_all;
-use nesting::measure::measure;
-use nesting::measure::scratch_needed;
+use measure::count_all;
+use measure::measure;
+use measure::scratch_needed;
 use nesting::table::table_of;
 use pack::read::node_at;
 use pack::tree::parents_of;

@@ -1,20 +1,26 @@
--- How many rows a node keeps by its parent's kind, and how many data bytes it has by its own. Assumes nothing.
+-- How many rows a node keeps by its parent's kind. Assumes nothing.
 use Prim.Native.Nat.{ℕ, suc, _+_, _*_, _<_, _≤_}
-use mathlib.Core.List.{List, [], _∷_, map}
+use mathlib.Core.List.{List, [], _∷_}
 use mathlib.Core.Path.{_≡_, refl, sym, ap, _∙_}
 use native.Mathlib.Omega.{arith}
 use lib.ListN.{length, getD}
-use Rattle.format.specs.Bytes.{join}
-use Rattle.format.specs.declared.Kind.{Kind}
-use Rattle.format.specs.declared.Kind.the-variants.{Bits, Native, Fixed, Bytes32, Bytes64, Views, Lists32, Lists64, Runs, Struct, Union, Dictionary, Unknown}
-use Rattle.format.specs.Node.{nodeCount, kindNumber, kind, rows, parent, secondLength}
-use Rattle.format.specs.Kept.{keptRows, carried, cells, ownBytes}
-use Rattle.format.specs.Write.{dataLength}
-use Rattle.format.specs.Accepted.{Shares, Carries, Offsets}
+use Rattle.format.specs.declared.Kind.the-variants.{Runs}
+use Rattle.format.specs.Node.{nodeCount, kindNumber, kind, rows, parent}
+use Rattle.format.specs.Kept.{keptRows, carried}
+use Rattle.format.specs.Accepted.{Shares, Carries}
 use Rattle.format.proofs.Laws.{length-table, kept-root}
 use Rattle.nesting.specs.Rows.{Ready, AtRuns, Counts}
-use Rattle.nesting.proofs.ByKind.{of-struct, of-union, of-runs, not-shared, of-others, of-bytes32, of-bytes64, is-bytes32, is-bytes64, kind-at, rows-at}
+use Rattle.nesting.proofs.Arrays.{holds-less}
+use Rattle.nesting.proofs.ByKind.{of-struct, of-union, of-runs, not-shared, of-others, kind-at, rows-at}
 use Rattle.nesting.proofs.Tree.{kept-shared, kept-carried, run-child}
+
+-- with more nodes counted than are asked for
+pub ready-at : {b root table parents counts : List ℕ} {n k : ℕ} → Ready b root table parents counts n → k ≤ n → Ready b root table parents counts k
+ready-at r h = record { sound = r .sound; rooted = r .rooted; tabled = r .tabled; above = r .above; counted = holds-less (r .counted) h }
+
+-- the counts so far
+pub ready-with : {b root table parents cs counts : List ℕ} {n k : ℕ} → Ready b root table parents cs n → Counts b root k counts → Ready b root table parents counts k
+ready-with r h = record { sound = r .sound; rooted = r .rooted; tabled = r .tabled; above = r .above; counted = h }
 
 carried-none : (rs : List ℕ) (n : ℕ) → length rs ≡ 0 → 0 ≡ length (carried rs n)
 unfolding carried
@@ -26,13 +32,10 @@ unfolding carried
 carried-every [] n e = absurd (e refl)
 carried-every (r ∷ rs) n e = sym (length-table (λ k. k) n)
 
-pub counted-root : (b root : List ℕ) (node : ℕ) → node ≡ 0 → length root ≡ length (keptRows b root node)
-counted-root b root node e = rw (e, kept-root b root)
-
 -- the root's count stands first
 pub counted-first : (b root counts : List ℕ) (kept : ℕ) → getD counts 0 0 ≡ kept → kept ≡ length root → Counts b root 1 counts
 counted-first b root counts kept e k =
-    record { at = λ i l. let z : i ≡ 0 = omega arith in rw z (e ∙ k ∙ counted-root b root 0 refl) }
+    record { at = λ i l. let z : i ≡ 0 = omega arith in rw z (e ∙ k ∙ ap length (sym (kept-root b root))) }
 
 module _ {b root table parents counts : List ℕ} {node : ℕ} (ready : Ready b root table parents counts node) (h : node < nodeCount b) (some : 0 < node) where
   is-parent : getD parents node 0 ≡ parent b node
@@ -97,64 +100,3 @@ module _ {b root table parents counts : List ℕ} {node : ℕ} (ready : Ready b 
 
     pub under-filled : (getD counts (getD parents node 0) 0 ≡ 0 → ⊥) → getD table (10 * node + 2) 0 ≡ length (keptRows b root node)
     under-filled e = rows-at b (ready .tabled) node h ∙ counted-every carrier e
-
--- data bytes: texts of w bytes, or none
-module _ (b : List ℕ) (i : ℕ) (rs : List ℕ) where
-  data32 : kind b i ≡ Bytes32 → dataLength (cells (kind b i) b i rs) ≡ length (join (map (ownBytes 4 b i) rs))
-  unfolding cells dataLength
-  data32 e = rw e
-
-  data64 : kind b i ≡ Bytes64 → dataLength (cells (kind b i) b i rs) ≡ length (join (map (ownBytes 8 b i) rs))
-  unfolding cells dataLength
-  data64 e = rw e
-
-  no-data : (k : Kind) → (k ≡ Bytes32 → ⊥) → (k ≡ Bytes64 → ⊥) → dataLength (cells k b i rs) ≡ 0
-  unfolding cells dataLength
-  no-data Bits f g = refl
-  no-data Native f g = refl
-  no-data Fixed f g = refl
-  no-data Bytes32 f g = absurd (f refl)
-  no-data Bytes64 f g = absurd (g refl)
-  no-data Views f g = refl
-  no-data Lists32 f g = refl
-  no-data Lists64 f g = refl
-  no-data Runs f g = refl
-  no-data Struct f g = refl
-  no-data Union f g = refl
-  no-data Dictionary f g = refl
-  no-data Unknown f g = refl
-
--- the same by the node's kind, as the array has it
-module _ {b root table parents counts : List ℕ} {node : ℕ} (ready : Ready b root table parents counts node) (h : node < nodeCount b) where
-  own-kind : getD table (10 * node) 0 ≡ kindNumber b node
-  own-kind = kind-at b (ready .tabled) node h
-
-  bytes-few : {w : ℕ} → Offsets w b node → (n : ℕ) → n ≤ secondLength b node → n ≤ length b
-  bytes-few o n l = omega (arith, o .dataLies, ready .sound .shape .table)
-
-  module _ (e : getD table (10 * node) 0 ≡ 4) where
-    is32 : kind b node ≡ Bytes32
-    is32 = of-bytes32 b node (sym own-kind ∙ e)
-
-    pub texts32 : Offsets 4 b node
-    texts32 = ready .sound .offsets32 node h is32
-
-    pub length32 : (rs : List ℕ) (n : ℕ) → (n ≡ length (join (map (ownBytes 4 b node) rs))) × (n ≤ secondLength b node)
-        → (n ≡ dataLength (cells (kind b node) b node rs)) × (n ≤ length b)
-    length32 rs n f = (f .0 ∙ sym (data32 b node rs is32), bytes-few texts32 n (f .1))
-
-  module _ (e : getD table (10 * node) 0 ≡ 5) where
-    is64 : kind b node ≡ Bytes64
-    is64 = of-bytes64 b node (sym own-kind ∙ e)
-
-    pub texts64 : Offsets 8 b node
-    texts64 = ready .sound .offsets64 node h is64
-
-    pub length64 : (rs : List ℕ) (n : ℕ) → (n ≡ length (join (map (ownBytes 8 b node) rs))) × (n ≤ secondLength b node)
-        → (n ≡ dataLength (cells (kind b node) b node rs)) × (n ≤ length b)
-    length64 rs n f = (f .0 ∙ sym (data64 b node rs is64), bytes-few texts64 n (f .1))
-
-  pub length-none : (getD table (10 * node) 0 ≡ 4 → ⊥) → (getD table (10 * node) 0 ≡ 5 → ⊥) → (rs : List ℕ)
-      → (0 ≡ dataLength (cells (kind b node) b node rs)) × (0 ≤ length b)
-  length-none f g rs =
-      (sym (no-data b node rs (kind b node) (λ q. f (own-kind ∙ is-bytes32 b node q)) (λ q. g (own-kind ∙ is-bytes64 b node q))), omega arith)

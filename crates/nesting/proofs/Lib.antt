@@ -1,4 +1,4 @@
--- Laws of the measure.
+-- Laws of kept rows.
 pub mod Between
 pub mod Runs
 pub mod Tree
@@ -7,10 +7,7 @@ pub mod ByKind
 pub mod Climb
 pub mod Sieve
 pub mod Counted
-pub mod Sizes
 pub mod Picks
-pub mod NodeEnd
-pub mod Scratch
-pub mod Spanned
-pub mod Rooted
+pub mod Levels
 pub mod RunEdges
+pub mod Scratch

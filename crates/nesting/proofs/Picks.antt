@@ -8,14 +8,10 @@ use native.Mathlib.Omega.{arith}
 use lib.ListN.{length}
 use Rattle.format.specs.Bytes.{anyBelow, chosen}
 use Rattle.format.specs.Slots.{picksFrom}
-use Rattle.format.specs.Node.{rows}
-use Rattle.format.specs.Mask.{picks}
 use Rattle.format.proofs.SlotLaws.{chosen-picks}
 use Rattle.slots.specs.declared.Bits.{Bits}
 use Rattle.slots.specs.Source.{slotOf, anyIn}
-use Rattle.slots.specs.Node.{bitsOf}
 use Rattle.slots.proofs.Reading.{slot-past}
-use Rattle.slots.proofs.Masked.{mask-picks}
 use Rattle.nesting.specs.Rows.{between, picksOf, Sifted}
 use Rattle.nesting.proofs.Between.{empty, any-chosen, sifted, sifted-more, chosen-more}
 
@@ -38,7 +34,3 @@ module _ (s : List ℕ) (b : Bits) where
 
   pub count-picks : length (picksFrom (slotOf s b) (b .len) 0) ≡ length (picksOf s b)
   count-picks = ap length (sym (chosen-picks (slotOf s b) (b .len)))
-
--- a mask's bits pick the mask's rows
-pub picks-mask : (m : List ℕ) → picksOf m (bitsOf m 0) ≡ picks m
-picks-mask m = chosen-picks (slotOf m (bitsOf m 0)) (rows m 0) ∙ mask-picks m

@@ -7,8 +7,8 @@ ghost use Rattle.format.specs.Kept.{keptRows};
 ghost use Rattle.slots.specs.Source.{Lies};
 ghost use Rattle.nesting.specs.Rows.{picksOf, edge, AtRuns, RootRuns};
 use crate::table::least;
-use crate::table::less;
 use crate::table::run_end;
+use pack::read::less;
 use slots::Bits;
 
 // Where run j of runs node i ends among len slots.

@@ -1,8 +1,5 @@
-// What each node of an accepted journal keeps, measured before anything is written and without a buffer.
-pub mod data;
+// Which rows each node of an accepted journal keeps, and how many, without a buffer.
 pub mod edges;
-pub mod measure;
-pub mod root;
 pub mod rows;
-pub mod size;
 pub mod table;
+pub mod top;

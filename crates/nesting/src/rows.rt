@@ -1,6 +1,5 @@
 // Which rows a node keeps, asked by climbing to the root: no buffer is filled to know it.
 ghost use mathlib.Core.Path.{_≡_};
-ghost use mathlib.Core.Bool.{true};
 ghost use Prim.Native.Nat.{_<_, suc};
 ghost use lib.ListN.{length};
 ghost use Rattle.format.specs.Node.{nodeCount, rows};
@@ -8,14 +7,14 @@ ghost use Rattle.format.specs.Kept.{keptRows};
 ghost use Rattle.slots.specs.Source.{Lies};
 ghost use Rattle.nesting.specs.Rows.{between, keeps, picksOf, Ready, AtRuns};
 use crate::edges::count_runs;
-use crate::root::at_root;
 use crate::table::RUNS;
 use crate::table::STRUCT;
 use crate::table::UNION;
 use crate::table::least;
-use crate::table::less;
 use crate::table::run_end;
 use crate::table::run_start;
+use crate::top::at_root;
+use pack::read::less;
 use slots::Bits;
 
 // Some slot of [from, to) is picked.
@@ -138,7 +137,7 @@ fn count_child(
     count_rows(mask, bits, journal, table, parents, counts, p + 1)
 }
 
-// How many rows of the node are kept, where this is known of the nodes before it: only a child of runs is looked at row by row.
+// How many rows of a node below the root are kept, where this is known of the nodes before it: only a child of runs is looked at row by row.
 pub fn count_kept(
     mask: &[u8],
     bits: Bits,
@@ -150,12 +149,9 @@ pub fn count_kept(
 ) -> usize
     requires { ⌜ Lies (now mask) bits ⌝ }
     requires { ⌜ Ready (now journal) (picksOf (now mask) bits) (now table) (now parents) (now counts) node ⌝ }
-    requires { ⌜ node < nodeCount (now journal) ⌝ }
+    requires { ⌜ (0 < node) × (node < nodeCount (now journal)) ⌝ }
     ensures { λ n. ⌜ n ≡ length (keptRows (now (journal .entry)) (picksOf (now (mask .entry)) bits) node) ⌝ }
 {
-    if node == 0 {
-        return slots::count(mask, bits);
-    }
     let p = parents[node] as usize;
     let k = table[10 * p];
     if k == STRUCT {

@@ -2,7 +2,7 @@
 ghost use mathlib.Core.Path.{_≡_};
 ghost use mathlib.Core.Bool.{true};
 ghost use mathlib.Core.List.{_∷_, []};
-ghost use Prim.Native.Nat.{_+_, _-_, _*_, _≤_, _<_, min, suc};
+ghost use Prim.Native.Nat.{_+_, _*_, _≤_, _<_, min, suc};
 ghost use lib.ListN.{length};
 ghost use Rattle.format.specs.Bytes.{le};
 ghost use Rattle.format.specs.Node.{tableStart, nodeCount, rows, runEnd, runStart};
@@ -16,16 +16,6 @@ pub const RUNS: u32 = 9;
 pub const STRUCT: u32 = 10;
 
 pub const UNION: u32 = 11;
-
-// What a leaves over b; 0 if b is more.
-pub fn less(a: usize, b: usize) -> usize
-    ensures { λ r. ⌜ r ≡ a - b ⌝ }
-{
-    if a < b {
-        return 0;
-    }
-    a - b
-}
 
 // The smaller of two numbers.
 pub fn least(a: usize, b: usize) -> usize

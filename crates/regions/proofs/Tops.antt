@@ -24,7 +24,7 @@ use Rattle.predicate.specs.declared.Selection.{Selection}
 use Rattle.predicate.specs.declared.Selection.the-variants.{Rows}
 use Rattle.nesting.specs.Rows.{picksOf, Nodes, Level, Top}
 use Rattle.nesting.proofs.ByKind.{of-runs, of-others, kind-at, rows-at, rows-small}
-use Rattle.nesting.proofs.Rooted.{up, parent-few}
+use Rattle.nesting.proofs.Levels.{up, parent-few}
 use Rattle.nesting.proofs.Runs.{carried-chosen}
 use Rattle.nesting.proofs.Tree.{kept-all, kept-carried}
 use Rattle.fill.specs.Scratch.{Bitmap}

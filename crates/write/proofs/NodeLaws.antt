@@ -15,7 +15,7 @@ use Rattle.format.specs.Write.{numbers, written, extract, noColumn, noNode}
 use Rattle.format.proofs.Laws.{getD-table, kept-at}
 use Rattle.format.proofs.Numbers.{numbers-append}
 use Rattle.format.proofs.Put.{put-parts, length-put, none, then, named}
-use Rattle.nesting.proofs.Sizes.{extract-length}
+use Rattle.measure.proofs.Sizes.{extract-length}
 use Rattle.nodes.specs.Body.{nodeBody, nodeFields}
 use Rattle.nodes.proofs.BodyLaws.{body-more, fields-more}
 use Rattle.body.specs.Added.{columnOf, Written}

@@ -14,7 +14,7 @@ use Rattle.format.proofs.Laws.{length-table, kept-at}
 use Rattle.format.proofs.Put.{then, named, same-size, wrote-front}
 use Rattle.append.specs.Cells.{padding}
 use Rattle.append.proofs.CellLaws.{padded-is}
-use Rattle.nesting.proofs.Sizes.{extract-length}
+use Rattle.measure.proofs.Sizes.{extract-length}
 use Rattle.nodes.proofs.PutLaws.{pad-ends}
 use Rattle.write.specs.Nodes.{NodesTo}
 

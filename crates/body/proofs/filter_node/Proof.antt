@@ -1,7 +1,7 @@
 -- `body::filter_node` meets its contract: the rows are told by the mask or by scratch. Assumes nothing.
 use native.Mathlib.Omega.{arith}
 use borrow.Author.Needs.{needs}
-use Rattle.nesting.proofs.NodeEnd.{here}
+use Rattle.measure.proofs.NodeEnd.{here}
 use Rattle.body.proofs.SelectLaws.{chosen-of, null-of, count-of, fit-of, written-by}
 use Rattle.body.proofs.filter_node.Statement.{statement}
 use Rattle.body.proofs.filter_node.Tie as tie

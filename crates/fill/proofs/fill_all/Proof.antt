@@ -5,7 +5,7 @@ use native.Mathlib.Omega.{arith}
 use lib.ListN.{length, length-set}
 use Rattle.format.proofs.Put.{same-size}
 use Rattle.nesting.specs.Rows.{picksOf}
-use Rattle.nesting.proofs.NodeEnd.{ready-at}
+use Rattle.nesting.proofs.Counted.{ready-at}
 use Rattle.nesting.proofs.Scratch.{child-inside}
 use Rattle.fill.proofs.RunBits.{at-runs}
 use Rattle.fill.proofs.Filling.{FilledTo, filled-none, next-fits, filled-more, filled-same, filled-all}

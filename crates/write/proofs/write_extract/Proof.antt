@@ -4,7 +4,7 @@ use native.Mathlib.Omega.{arith}
 use lib.ListN.{length-take}
 use lib.Seq.{length-take-le}
 use Rattle.format.proofs.Measure.{length-numbers}
-use Rattle.nesting.proofs.NodeEnd.{count-few}
+use Rattle.measure.proofs.NodeEnd.{count-few}
 use Rattle.write.proofs.WholeLaws.{pad-fits, start-fits, table-fits, trailer-fits, whole}
 use borrow.Author.Needs.{needs}
 use Rattle.write.proofs.write_extract.Statement.{statement}

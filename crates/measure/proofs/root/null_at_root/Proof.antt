@@ -1,0 +1,70 @@
+-- `measure::root::null_at_root` meets its contract. The loop's invariant: no picked slot of the first w words is null. Assumes nothing.
+use native.Mathlib.Omega.{arith}
+use borrow.Author.Needs.{needs}
+use Prim.Native.Nat.{_+_, _*_, _-_, _≤_}
+use mathlib.Core.Bool.{false, not, _&&_}
+use Rattle.format.specs.Bytes.{bitIn}
+use Rattle.format.specs.Slots.{All}
+use Rattle.format.proofs.SlotLaws.{all-none}
+use Rattle.slots.specs.Source.{slotOf}
+use Rattle.slots.proofs.Reading.{slot-past}
+use Rattle.measure.proofs.Rooted.{null-here, null-not, null-end}
+use Rattle.measure.proofs.root.null_at_root.Statement.{statement}
+use Rattle.measure.proofs.root.null_at_root.Tie as tie
+
+abbrev Inv-loop : tie.InvT-loop
+Inv-loop mask bits journal first len w₀ w = (64 * w ≤ bits .len + 64) × All (λ j. slotOf mask bits j && not (bitIn journal (first + j))) false 0 (64 * w)
+
+abbrev μ-loop : tie.MeasureT-loop
+μ-loop mask bits journal first len w₀ w = bits .len - w
+
+loop-holds : tie.Need-loop-holds Inv-loop μ-loop
+loop-holds c = (omega arith, all-none (omega arith))
+
+mul-loop : tie.Need-mul-loop Inv-loop μ-loop
+mul-loop c = omega (arith, c .before .before .before .pre .0 .small, c .before .before .before .pre .0 .values)
+
+word-requires : tie.Need-word-requires Inv-loop μ-loop
+word-requires c κs = (c .before .before .before .before .pre .0, omega arith)
+
+mul-bits64 : tie.Need-mul-bits64 Inv-loop μ-loop
+mul-bits64 c = omega (arith, c .before .before .before .before .before .pre .0 .small, c .before .before .before .before .before .pre .0 .values)
+
+add-bits64 : tie.Need-add-bits64 Inv-loop μ-loop
+add-bits64 c = omega (arith, c .before .before .before .before .before .pre .0 .small, c .before .before .before .before .before .pre .0 .values, c .before .before .before .before .before .pre .1)
+
+bits64-requires : tie.Need-bits64-requires Inv-loop μ-loop
+bits64-requires c κs = search needs
+
+add-w : tie.Need-add-w Inv-loop μ-loop
+add-w c = omega (arith, c .before .before .before .before .before .before .pre .0 .small, c .before .before .before .before .before .before .pre .0 .values)
+
+returns : tie.Need-returns Inv-loop μ-loop
+returns c = null-here (slotOf _ _) _ _ (64 * c .before .before .before .before .loop .w) (c .before .before .word .ensures) (c .before .bits64 .ensures) _ (λ j h. slot-past _ _ j h) (c .if1 .taken)
+
+loop-less : tie.Need-loop-less Inv-loop μ-loop
+loop-less c = omega arith
+
+loop-again : tie.Need-loop-again Inv-loop μ-loop
+loop-again c = (omega arith, null-not (slotOf _ _) _ _ (64 * c .before .before .before .before .loop .w) (c .before .before .word .ensures) (c .before .bits64 .ensures) (c .if1 .left) (c .before .before .before .before .loop .inv .1) _ (omega arith))
+
+returns-2 : tie.Need-returns-2 Inv-loop μ-loop
+returns-2 c = null-end (λ j. slotOf _ _ j && not (bitIn _ (_ + j))) _ _ (omega arith) (c .before .loop .inv .1)
+
+pub null-at-root-spec : {M : Type 1} → statement M
+null-at-root-spec =
+    tie.close
+    (tie.spec
+    Inv-loop
+    μ-loop
+    loop-holds
+    mul-loop
+    word-requires
+    mul-bits64
+    add-bits64
+    bits64-requires
+    add-w
+    returns
+    loop-less
+    loop-again
+    returns-2)
