@@ -1,4 +1,3 @@
 -- The laws of the bytes of rows.
 pub mod CellLaws
-pub mod TextLaws
 pub mod NodeLaws

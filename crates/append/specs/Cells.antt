@@ -1,9 +1,8 @@
--- The bytes of rows, one row after another: entries of a width, rebuilt offsets, own bytes; and what the rows must be within. Assumes nothing.
-use Prim.Native.Nat.{ℕ, suc, _+_, _-_, _*_, _^_, _≤_, _<_}
-use mathlib.Core.List.{List, [], _∷_, map}
+-- The bytes of rows, one row after another: entries of a width; zeros; and what the rows must be within. Assumes nothing.
+use Prim.Native.Nat.{ℕ, _+_, _-_, _*_, _^_, _≤_, _<_}
+use mathlib.Core.List.{List, map}
 use lib.ListN.{length, replicate}
-use Rattle.format.specs.Bytes.{join, le, bytesAt, raised}
-use Rattle.format.specs.Write.{total}
+use Rattle.format.specs.Bytes.{join, bytesAt, raised}
 use Rattle.format.specs.Rows.{Below}
 
 -- n zeros, and those that raise a place to a multiple of 8
@@ -21,33 +20,6 @@ entry w b first r = bytesAt b (first + w * r) w
 unfoldable pub entriesOf : ℕ → List ℕ → ℕ → List ℕ → List ℕ
 entriesOf w b first rs = join (map (entry w b first) rs)
 
--- row r's offset, of w bytes: where its own bytes start
-unfoldable pub offset : ℕ → List ℕ → ℕ → ℕ → ℕ
-offset w b first r = le w b (first + w * r)
-
--- how many own bytes each row has, where row r's are from offset o r up to o (suc r)
-unfoldable pub size : (ℕ → ℕ) → ℕ → ℕ
-size o r = o (suc r) - o r
-
-unfoldable pub sizesOf : (ℕ → ℕ) → List ℕ → List ℕ
-sizesOf o rs = map (size o) rs
-
--- those bytes, of data at `start`
-unfoldable pub text : (ℕ → ℕ) → List ℕ → ℕ → ℕ → List ℕ
-text o b start r = bytesAt b (start + o r) (size o r)
-
-unfoldable pub textsOf : (ℕ → ℕ) → List ℕ → ℕ → List ℕ → List ℕ
-textsOf o b start rs = join (map (text o b start) rs)
-
--- where rows of these sizes end, if the first starts at s
-unfoldable pub endsFrom : ℕ → List ℕ → List ℕ
-endsFrom s [] = []
-endsFrom s (n ∷ ns) = (s + n) ∷ endsFrom (s + n) ns
-
--- the sum of all sizes
-unfoldable pub totalOf : List ℕ → ℕ
-totalOf sizes = total sizes (length sizes)
-
 -- the rows are among the first so many rows, of which P holds
 pub record Among (P : ℕ → Type 0) (rs : List ℕ) : Type 0 where
   pub len : ℕ
@@ -58,13 +30,3 @@ pub record Among (P : ℕ → Type 0) (rs : List ℕ) : Type 0 where
 pub record Entries (w : ℕ) (b : List ℕ) (first n : ℕ) : Type 0 where
   pub small : n < 2 ^ 64
   pub inside : first + w * n ≤ length b
-
--- so do the offsets of the first n rows and the one behind them, and they do not fall
-pub record Offsets (w : ℕ) (b : List ℕ) (first n : ℕ) : Type 0 where
-  pub inside : first + w * suc n ≤ length b
-  pub rising : (r : ℕ) → r < n → offset w b first r ≤ offset w b first (suc r)
-
--- and so do the rows' own bytes, of data at `start`
-pub record Texts (w : ℕ) (b : List ℕ) (first start n : ℕ) : Type 0 where
-  pub offsets : Offsets w b first n
-  pub within : start + offset w b first n ≤ length b

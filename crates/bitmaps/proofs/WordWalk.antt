@@ -2,7 +2,7 @@
 use Prim.Native.Nat.{ℕ, suc, _+_, _-_, _*_, _^_, _≤_, _<_}
 use mathlib.Core.Path.{_≡_, refl, sym, ap, _∙_}
 use mathlib.Core.Bool.{Bool, true, false}
-use mathlib.Core.List.{List, [], _∷_, _++_, map, map-append}
+use mathlib.Core.List.{List, [], _∷_, _++_, map, map-append, append-nil}
 use mathlib.Core.Logic.{dite}
 use native.Mathlib.Nat.{zero-add}
 use native.Mathlib.Decide.{decLe}
@@ -13,8 +13,8 @@ use Rattle.format.specs.Bytes.{bitIn, bytesAt, bytesFor, packed}
 use Rattle.format.specs.Slots.{wordFrom, picksFrom, countUp}
 use Rattle.format.specs.Rows.{setRows}
 use Rattle.format.specs.Words.{lowBits, gather}
-use Rattle.format.proofs.SlotLaws.{picks-cat, count-cat, count-le, up-cat, slots-up, length-up}
-use Rattle.format.proofs.WordLaws.{from-shift, low-from, gather-map}
+use Rattle.format.proofs.SlotLaws.{picks-cat, picks-none, count-cat, count-le, up-cat, slots-up, length-up}
+use Rattle.format.proofs.WordLaws.{from-shift, from-zero, low-from, gather-map}
 use Rattle.format.proofs.Measure.{length-packed}
 use Rattle.bits.specs.Pack.{waiting, pushed}
 use Rattle.bits.specs.declared.Packer.{Packer}
@@ -47,6 +47,13 @@ module _ (b : List ℕ) (from : ℕ) (s : List ℕ) (m : Bits) where
   pub word-pushed : (p : Packer) (w v x : ℕ) → v ≡ wordFrom (bitIn b) 64 (from + 64 * w) → x ≡ wordAt s m w → pushed p v x ≡ waiting p ++ fresh w
   unfolding bitFrom fresh
   word-pushed p w v x ev ex = rw (ev, ex, from-shift) (pushed-picks p (slotOf s m) (bitFrom b from) (64 * w))
+
+  -- an empty word gives none
+  pub taken-none : (w v x : ℕ) → x ≡ wordAt s m w → x ≡ 0 → v ≡ w + 1 → taken b from s m (64 * v) ≡ taken b from s m (64 * w)
+  unfolding fresh
+  taken-none w v x ex e n =
+      let none : fresh w ≡ [] = rw (picks-none (slotOf s m) 64 (64 * w) (from-zero (slotOf s m) 64 (64 * w) (sym ex ∙ e))) in
+      taken-more w v n ∙ ap (taken b from s m (64 * w) ++_) none ∙ append-nil (taken b from s m (64 * w))
 
   -- no more are taken than the whole column has, so a turn's word fits
   taken-le : (n : ℕ) → length (taken b from s m n) ≤ length (taken b from s m (m .len))

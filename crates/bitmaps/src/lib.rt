@@ -68,7 +68,7 @@ fn push_run(out: &mut [u8], start: Bitmap, values: &[u8], from: usize, a: usize,
     let mut i = a;
     while i < e {
         let n = up_to_64(e - i);
-        let v = slots::bits64(values, from + i);
+        let v = slots::load64(values, from + i);
         let ones = bits::low_ones(n);
         to = push(out, to, v, ones);
         i += n as usize;
@@ -90,7 +90,7 @@ fn push_word(
     requires { ⌜ to .here + 8 * ((to .packer .filled + length (setRows base word)) / 64) ≤ length (now out) ⌝ }
     ensures { λ r. ⌜ Adds (map (bitFrom (now (values .entry)) from) (setRows base word)) (now (out .entry)) to (now (out .exit)) r ⌝ }
 {
-    let v = slots::bits64(values, from + base);
+    let v = slots::load64(values, from + base);
     push(out, to, v, word)
 }
 
@@ -113,7 +113,7 @@ fn push_rows(
     let mut k = i;
     while k < j {
         let row = list[k] as usize;
-        let v = slots::bits64(values, from + row);
+        let v = slots::load64(values, from + row);
         to = push(out, to, v, 1);
         k += 1;
     }
@@ -159,9 +159,13 @@ pub fn filter_bits_compress(
         } else {
             slots::word(s, mask, w)
         };
-        let v = slots::bits64(values, from + 64 * w);
+        let first = from + 64 * w;
         w += 1;
-        to = push(out, to, v, x);
+        // Where few rows are picked most words are empty: they cost this test alone.
+        if x != 0 {
+            let v = slots::load64(values, first);
+            to = push(out, to, v, x);
+        }
     }
     flush(out, to)
 }

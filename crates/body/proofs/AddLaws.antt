@@ -13,10 +13,10 @@ use Rattle.format.specs.Put.{put}
 use Rattle.format.specs.Write.{Buffer, absent, holds, bitmap, first, second, dataLength}
 use Rattle.format.proofs.Put.{Left, whole, stored, done, then, same-size}
 use Rattle.append.specs.Cells.{padding}
-use Rattle.nodes.specs.Body.{appended, ending, startOf, nodeBody}
-use Rattle.nodes.specs.Place.{Puts}
-use Rattle.nodes.specs.declared.Placed.{Placed}
-use Rattle.nodes.proofs.PutLaws.{pad-ends}
+use Rattle.buffers.specs.Place.{appended, ending, startOf, Puts}
+use Rattle.nodes.specs.Body.{nodeBody}
+use Rattle.buffers.specs.declared.Placed.{Placed}
+use Rattle.buffers.proofs.PutLaws.{pad-ends}
 use Rattle.body.specs.Added.{dataSize, Added}
 
 -- ---- one buffer

@@ -14,8 +14,9 @@ use Rattle.format.specs.Verdict.{packLimit}
 use Rattle.format.specs.Write.{Buffer, bitmap, first, second, dataLength}
 use Rattle.format.proofs.SlotLaws.{count-le}
 use Rattle.append.specs.Cells.{padding}
-use Rattle.nodes.specs.Body.{appended, ending, nodeBody, nodeFields}
-use Rattle.nodes.specs.Place.{rowsBy, Picked, Kinded}
+use Rattle.buffers.specs.Place.{appended, ending, rowsBy}
+use Rattle.nodes.specs.Body.{nodeBody, nodeFields}
+use Rattle.nodes.specs.Place.{Picked, Kinded}
 use Rattle.pack.specs.Read.{nodeOf}
 use Rattle.pack.specs.declared.Node.{Node}
 use Rattle.predicate.specs.declared.Selection.{Selection}

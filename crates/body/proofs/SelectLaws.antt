@@ -8,7 +8,7 @@ use Rattle.format.specs.Kept.{Column, keptRows, keptNode}
 use Rattle.format.specs.Node.{valid}
 use Rattle.format.specs.Write.{anyNull}
 use Rattle.nodes.specs.Body.{nodeBody}
-use Rattle.nodes.specs.Place.{rowsBy}
+use Rattle.buffers.specs.Place.{rowsBy}
 use Rattle.predicate.specs.declared.Selection.{Selection}
 use Rattle.regions.specs.Region.{Selects}
 use Rattle.slots.specs.declared.Bits.{Bits}

@@ -8,7 +8,8 @@ use Rattle.format.specs.Node.{noBitmap, kindNumber, param, rows, kids}
 use Rattle.format.specs.Put.{put, Wrote}
 use Rattle.format.specs.Kept.{Column, KeptNode}
 use Rattle.format.specs.Write.{bitmap, first, second, dataLength}
-use Rattle.nodes.specs.Body.{ending, startOf, nodeBody, nodeFields}
+use Rattle.buffers.specs.Place.{ending, startOf}
+use Rattle.nodes.specs.Body.{nodeBody, nodeFields}
 use Rattle.predicate.specs.declared.Selection.{Selection}
 use Rattle.predicate.specs.Selection.{Holds, Sourced, keptBy}
 use Rattle.slots.specs.declared.Bits.{Bits}

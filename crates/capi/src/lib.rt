@@ -69,7 +69,7 @@ pub extern "C" fn prepare(
 ) -> u64
     ensures { λ r. ⌜ Entered (preparing (now (mask .entry)) (statedIf stated count) asked (now (list .entry))) r (now (answer .exit)) (now (list .exit)) ⌝ }
 {
-    let prepared = predicate::prepare(mask, stated, count, asked, list);
+    let prepared = prepare::prepare(mask, stated, count, asked, list);
     *answer = in_numbers(prepared);
     slip_of(prepared)
 }

@@ -1,17 +1,16 @@
--- The buffers of a node's kept cells are what the column filters write, with the node's skip in the place of row 0. Assumes nothing.
+-- The buffers of a node's kept entries are what the column filters write, with the node's skip in the place of row 0. Assumes nothing.
 use Prim.Native.Nat.{ℕ, _+_, _*_}
 use mathlib.Core.Bool.{Bool}
 use mathlib.Core.List.{List, map}
-use mathlib.Core.Path.{_≡_, sym, ap, _∙_}
+use mathlib.Core.Path.{_≡_, sym, ap}
 use native.Mathlib.Omega.{arith}
-use lib.ListN.{length}
-use Rattle.format.specs.Kept.{firstEntry, secondEntry, ownBytes, entries, texts, ranges}
+use Rattle.format.specs.Kept.{firstEntry, secondEntry, entries, ranges}
 use Rattle.format.specs.Node.{firstAt, secondAt, skip}
 use Rattle.format.specs.Slots.{picksFrom}
-use Rattle.format.specs.Write.{holds, numbers, offsets, first, second, dataLength}
+use Rattle.format.specs.Write.{holds, first, second}
 use Rattle.format.proofs.RowLaws.{below-picks}
-use Rattle.append.specs.Cells.{entriesOf, offset, sizesOf, textsOf, totalOf, Among, Texts}
-use Rattle.append.proofs.NodeLaws.{first-entries, second-entries, own-texts, own-sizes, length-texts}
+use Rattle.append.specs.Cells.{entriesOf, Among}
+use Rattle.append.proofs.NodeLaws.{first-entries, second-entries}
 
 -- kept rows are among all rows
 pub kept-among : {P : ℕ → Type 0} (p : ℕ → Bool) (len : ℕ) → P len → Among P (picksFrom p len 0)
@@ -33,18 +32,3 @@ module _ (w : ℕ) (b : List ℕ) (i : ℕ) (rs : List ℕ) where
     pub second-of-ranges : second (ranges starts (map (secondEntry w b i) rs)) ≡ holds (entriesOf w b (secondAt b i + w * skip b i) rs)
     unfolding second
     second-of-ranges = ap holds (sym (second-entries w b i rs))
-
-  -- own bytes, by `filter_texts`
-  pub second-of-texts : second (texts w (map (ownBytes w b i) rs)) ≡ holds (textsOf (offset w b (firstAt b i + w * skip b i)) b (secondAt b i) rs)
-  unfolding second
-  second-of-texts = ap holds (sym (own-texts w b i rs))
-
-  -- their offsets, by `filter_offsets`, and its sum
-  module _ (h : Among (Texts w b (firstAt b i + w * skip b i) (secondAt b i)) rs) where
-    pub first-of-texts : first (texts w (map (ownBytes w b i) rs)) ≡ holds (numbers w (offsets (sizesOf (offset w b (firstAt b i + w * skip b i)) rs)))
-    unfolding first
-    first-of-texts = ap (λ (l : List ℕ). holds (numbers w (offsets l))) (own-sizes w b i rs h)
-
-    pub length-of-texts : dataLength (texts w (map (ownBytes w b i) rs)) ≡ totalOf (sizesOf (offset w b (firstAt b i + w * skip b i)) rs)
-    unfolding dataLength
-    length-of-texts = ap length (sym (own-texts w b i rs)) ∙ length-texts w b (firstAt b i + w * skip b i) (secondAt b i) rs h

@@ -1,5 +1,5 @@
 -- The laws of a column that is written block by block.
 pub mod Walk
 pub mod EntryWalk
-pub mod TextWalk
+pub mod Passing
 pub mod Buffers

@@ -6,6 +6,7 @@ ghost use Rattle.format.specs.Put.{Wrote};
 ghost use Rattle.format.specs.Slots.{picksFrom};
 ghost use Rattle.predicate.specs.Selection.{Holds, Readable, keptBy};
 ghost use Rattle.append.specs.Cells.{entriesOf, Entries};
+use crate::scattered;
 use append::entries;
 use predicate::Block;
 use predicate::Cursor;
@@ -39,7 +40,19 @@ fn filter_native1(
             }
             Block::Word(base, x, next) => {
                 here = entries::gather_word1(out, here, journal, first, base, x);
-                cur = next;
+                let taken = scattered::pass_words1(
+                    out,
+                    here,
+                    journal,
+                    first,
+                    sel,
+                    s,
+                    mask,
+                    list,
+                    next,
+                );
+                here = taken.next;
+                cur = taken.cur;
             }
             Block::Listed(i, j, next) => {
                 here = entries::gather_list1(out, here, journal, first, list, i, j);
@@ -77,7 +90,19 @@ fn filter_native2(
             }
             Block::Word(base, x, next) => {
                 here = entries::gather_word2(out, here, journal, first, base, x);
-                cur = next;
+                let taken = scattered::pass_words2(
+                    out,
+                    here,
+                    journal,
+                    first,
+                    sel,
+                    s,
+                    mask,
+                    list,
+                    next,
+                );
+                here = taken.next;
+                cur = taken.cur;
             }
             Block::Listed(i, j, next) => {
                 here = entries::gather_list2(out, here, journal, first, list, i, j);
@@ -115,7 +140,19 @@ fn filter_native4(
             }
             Block::Word(base, x, next) => {
                 here = entries::gather_word4(out, here, journal, first, base, x);
-                cur = next;
+                let taken = scattered::pass_words4(
+                    out,
+                    here,
+                    journal,
+                    first,
+                    sel,
+                    s,
+                    mask,
+                    list,
+                    next,
+                );
+                here = taken.next;
+                cur = taken.cur;
             }
             Block::Listed(i, j, next) => {
                 here = entries::gather_list4(out, here, journal, first, list, i, j);
@@ -153,7 +190,19 @@ fn filter_native8(
             }
             Block::Word(base, x, next) => {
                 here = entries::gather_word8(out, here, journal, first, base, x);
-                cur = next;
+                let taken = scattered::pass_words8(
+                    out,
+                    here,
+                    journal,
+                    first,
+                    sel,
+                    s,
+                    mask,
+                    list,
+                    next,
+                );
+                here = taken.next;
+                cur = taken.cur;
             }
             Block::Listed(i, j, next) => {
                 here = entries::gather_list8(out, here, journal, first, list, i, j);
@@ -191,7 +240,19 @@ fn filter_native16(
             }
             Block::Word(base, x, next) => {
                 here = entries::gather_word16(out, here, journal, first, base, x);
-                cur = next;
+                let taken = scattered::pass_words16(
+                    out,
+                    here,
+                    journal,
+                    first,
+                    sel,
+                    s,
+                    mask,
+                    list,
+                    next,
+                );
+                here = taken.next;
+                cur = taken.cur;
             }
             Block::Listed(i, j, next) => {
                 here = entries::gather_list16(out, here, journal, first, list, i, j);
@@ -229,7 +290,19 @@ fn filter_native32(
             }
             Block::Word(base, x, next) => {
                 here = entries::gather_word32(out, here, journal, first, base, x);
-                cur = next;
+                let taken = scattered::pass_words32(
+                    out,
+                    here,
+                    journal,
+                    first,
+                    sel,
+                    s,
+                    mask,
+                    list,
+                    next,
+                );
+                here = taken.next;
+                cur = taken.cur;
             }
             Block::Listed(i, j, next) => {
                 here = entries::gather_list32(out, here, journal, first, list, i, j);
@@ -269,7 +342,20 @@ fn filter_native_any(
             }
             Block::Word(base, x, next) => {
                 here = entries::gather_word_any(out, here, journal, first, width, base, x);
-                cur = next;
+                let taken = scattered::pass_words_any(
+                    out,
+                    here,
+                    journal,
+                    first,
+                    width,
+                    sel,
+                    s,
+                    mask,
+                    list,
+                    next,
+                );
+                here = taken.next;
+                cur = taken.cur;
             }
             Block::Listed(i, j, next) => {
                 here = entries::gather_list_any(out, here, journal, first, width, list, i, j);

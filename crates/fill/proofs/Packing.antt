@@ -1,5 +1,5 @@
 -- The tests of rows packed a byte at a time. Assumes nothing.
-use Prim.Native.Nat.{ℕ, zero, suc, _+_, _-_, _*_, _/_, _%_, _≤_, _<_, min}
+use Prim.Native.Nat.{ℕ, zero, suc, _+_, _-_, _*_, _/_, _%_, _^_, _≤_, _<_, min}
 use mathlib.Core.Bool.{Bool, true, false}
 use mathlib.Core.List.{List, [], _∷_, _++_, append-nil}
 use mathlib.Core.Logic.{dite}
@@ -17,7 +17,7 @@ use Rattle.format.specs.Put.{Wrote}
 use Rattle.format.proofs.Put.{Left, room, stored, done}
 use Rattle.format.proofs.Measure.{length-packed}
 use Rattle.format.proofs.SlotLaws.{length-slots, slots-cat}
-use Rattle.format.proofs.WordLaws.{word-lt, from-lt}
+use Rattle.format.proofs.WordLaws.{word-lt, from-lt, from-cat}
 use Rattle.format.proofs.PackedLaws.{packed-word, packed-append, bit-packed}
 
 -- ---- a byte made row by row, the last row first
@@ -42,6 +42,31 @@ module _ (p : ℕ → Bool) where
       let n : to - row ≡ suc (to - r) = omega arith in
       let s : suc row ≡ r = omega arith in
       rw (n, s, ← et) (omega (arith, byte-one t))
+
+-- ---- a byte made row by row, the first row first
+
+bit-small : (t : Bool) (n : ℕ) → n ≤ 7 → boolByte t * 2 ^ n % 256 ≡ one t * 2 ^ n
+bit-small true n h = omega (arith, pow-mono h)
+bit-small false n h = omega arith
+
+module _ (p : ℕ → Bool) where
+  word-one : (i : ℕ) → wordFrom p 1 i ≡ one (p i)
+  unfolding wordFrom slotsFrom wordOf
+  word-one i = omega arith
+
+  -- at most eight rows are a byte
+  pub word-byte : (n i x : ℕ) → x ≡ wordFrom p n i → n ≤ 8 → x < 256
+  word-byte n i x e h = rw e (lt-of-lt-of-le (from-lt p n i) (pow-mono h))
+
+  -- the row after them is the next bit
+  pub word-next : (from r x : ℕ) (t : Bool) → from ≤ r → r ≤ from + 7 → x ≡ wordFrom p (r - from) from → t ≡ p r
+      → x + boolByte t * 2 ^ (r - from) % 256 ≡ wordFrom p (r + 1 - from) from
+  word-next from r x t l h ex et =
+      let n : r + 1 - from ≡ r - from + 1 = omega arith in
+      let at : from + (r - from) ≡ r = omega arith in
+      let small = bit-small t (r - from) (omega arith) in
+      let set : wordFrom p 1 r ≡ one t = word-one r ∙ ap one (sym et) in
+      rw n (omega (arith, small, ex, rw (at, set) at (from-cat p (r - from) 1 from)))
 
 -- ---- bytes of rows
 

@@ -8,9 +8,9 @@ ghost use Rattle.format.specs.Slots.{slotsFrom, wordFrom};
 ghost use Rattle.format.specs.Put.{Wrote};
 ghost use Rattle.format.specs.Answer.{scratchNeeded};
 ghost use Rattle.slots.specs.Source.{Lies};
-ghost use Rattle.nesting.specs.Rows.{keeps, picksOf, Ready, AtRuns, RootRuns};
+ghost use Rattle.nesting.specs.Rows.{keeps, picksOf, edge, Ready, AtRuns, RootRuns};
 ghost use Rattle.fill.specs.Scratch.{Filled};
-use nesting::edges::start_edge;
+use nesting::edges::end_edge;
 use nesting::rows::keeps;
 use nesting::table::least;
 use nesting::table::node_count;
@@ -76,8 +76,13 @@ pub fn fill_kept(
     place
 }
 
-// At most eight runs of a runs node that keeps the root's rows, as a byte, the first run lowest: which of them have a picked slot. From
-// the last one down: each ends where the run before it in the loop starts.
+// At most eight runs as a byte, the first run lowest, and where the run after them starts.
+struct Gathered {
+    byte: u8,
+    next: usize,
+}
+
+// Of at most eight runs of a runs node that keeps the root's rows, the first of which starts at `start`: which have a picked slot.
 fn runs_byte(
     mask: &[u8],
     bits: Bits,
@@ -86,26 +91,35 @@ fn runs_byte(
     i: usize,
     from: usize,
     to: usize,
-) -> u8
+    start: usize,
+) -> Gathered
     requires { ⌜ Lies (now mask) bits ⌝ }
     requires { ⌜ RootRuns (now journal) (now table) i ⌝ }
-    requires { ⌜ (from ≤ to) × (to ≤ from + 8) × (to ≤ rows (now journal) (suc i)) ⌝ }
-    ensures { λ x. ⌜ x ≡ wordFrom (keeps (now (journal .entry)) (picksOf (now (mask .entry)) bits) (suc i)) (to - from) from ⌝ }
+    requires { ⌜ (from ≤ to) × (to ≤ from + 8) × (to ≤ rows (now journal) (suc i)) × (start ≡ edge (now journal) i (bits .len) from) ⌝ }
+    ensures { λ g. ⌜ g .byte ≡ wordFrom (keeps (now (journal .entry)) (picksOf (now (mask .entry)) bits) (suc i)) (to - from) from ⌝ }
+    ensures { λ g. ⌜ g .next ≡ edge (now (journal .entry)) i (bits .len) to ⌝ }
 {
     let len = bits.len;
     let mut x: u8 = 0;
-    let mut hi = start_edge(journal, table, i, to, len);
-    let mut r = to;
-    while from < r {
-        r -= 1;
-        let lo = start_edge(journal, table, i, r, len);
-        x = 2 * x + slots::any_within(mask, bits, lo, hi) as u8;
-        hi = lo;
+    let mut lo = start;
+    let mut r = from;
+    while r < to {
+        let hi = end_edge(journal, table, i, r, len);
+        // A run that is one word of the mask is asked without a call.
+        let some = if (hi - lo <= 57) & (lo + 64 <= len) {
+            slots::any_short(mask, bits, lo, hi)
+        } else {
+            slots::any_within(mask, bits, lo, hi)
+        };
+        x += (some as u8) << (r - from);
+        lo = hi;
+        r += 1;
     }
-    x
+    Gathered { byte: x, next: lo }
 }
 
-// The bitmap of the runs of such a node that have a picked slot: `fill_kept` of its child, by ranges of the mask's slots.
+// The bitmap of the runs of such a node that have a picked slot: `fill_kept` of its child, by ranges of the mask's slots. Each run end is
+// read once.
 fn fill_runs(
     mask: &[u8],
     bits: Bits,
@@ -122,10 +136,13 @@ fn fill_runs(
 {
     let len = table[10 * i + 12] as usize;
     let mut place = at;
+    let mut lo: usize = 0;
     let mut r: usize = 0;
     while r < len {
         let next = least(len, r + 8);
-        scratch[place] = runs_byte(mask, bits, journal, table, i, r, next);
+        let g = runs_byte(mask, bits, journal, table, i, r, next, lo);
+        scratch[place] = g.byte;
+        lo = g.next;
         place += 1;
         r = next;
     }

@@ -1,9 +1,11 @@
 -- The selection of an accepted mask, stored or lazy, picks the mask's rows. Assumes nothing.
-use Prim.Native.Nat.{ℕ, _^_, _≤_, _<_}
-use mathlib.Core.Bool.{Bool, true, false, cond}
+use Prim.Native.Nat.{ℕ, _/_, _^_, _≤_, _<_}
+use mathlib.Core.Bool.{Bool, true, false, not, _&&_, cond}
 use mathlib.Core.List.{List, []}
 use mathlib.Core.Path.{_≡_, refl, sym, _∙_}
 use native.Mathlib.Omega.{arith}
+use borrow.Author.Tests.{leb-true}
+use lib.Dec.{leb}
 use lib.ListN.{length}
 use Rattle.format.specs.declared.Route.{Route}
 use Rattle.format.specs.declared.Route.the-variants as route
@@ -12,19 +14,24 @@ use Rattle.format.specs.Node.{rows}
 use Rattle.format.specs.Mask as Masks
 use Rattle.format.specs.Mask.{count, maskLength, routeOf, entries}
 use Rattle.format.specs.Put.{Wrote}
+use Rattle.format.specs.Slots.{picksFrom}
 use Rattle.format.proofs.Laws.{kept-root}
 use Rattle.format.proofs.Put.{wrote-front, named}
 use Rattle.format.proofs.SlotLaws.{chosen-picks}
 use Rattle.slots.specs.declared.Bits.{Bits}
 use Rattle.slots.specs.Source.{slotOf, Lies}
+use Rattle.predicate.specs.declared.Held.the-variants.{Stored}
 use Rattle.predicate.specs.declared.Selection.{Selection}
+use Rattle.predicate.specs.declared.Selection.the-variants.{Rows}
 use Rattle.predicate.specs.Selection.{selectionFor, entriesOn, Holds, Sourced}
-use Rattle.predicate.specs.Prepare.{Counted}
-use Rattle.predicate.proofs.Holding.{stored-holds, lazy-holds, kept-holds, kept-same}
-use Rattle.predicate.proofs.Slips as mask
+use Rattle.prepare.specs.Prepare.{Counted}
+use Rattle.predicate.proofs.Holding.{front, stored-holds, lazy-holds, kept-holds, kept-same}
+use Rattle.predicate.proofs.Picks.{picks-start}
+use Rattle.prepare.proofs.Slips as mask
 use Rattle.nesting.specs.Rows.{picksOf}
+use Rattle.nesting.proofs.Picks.{count-picks}
 use Rattle.regions.specs.Region.{Selects}
-use Rattle.filter.specs.Call.{Routed, Selected}
+use Rattle.filter.specs.Call.{Routed, Selected, Few}
 
 -- whatever the route, the bits lie in the mask
 sourced-by : {m : List ℕ} {bits : Bits} (r : Route) (stored : Bool) (len n : ℕ) → Lies m bits → Sourced (selectionFor r stored len n) m bits
@@ -85,3 +92,45 @@ module _ {m : List ℕ} {bits : Bits} {route : Route} {asked : Bool} {list : Lis
 pub selects : {m b : List ℕ} {bits : Bits} {asked : Bool} {old new : List ℕ} {sel : Selection} → Selected m bits asked old new sel → bits .len ≤ rows b 0
     → Selects b 0 (picksOf m bits) sel m bits new
 selects {m} {b} {bits} s h = record { sourced = s .sourced; holds = s .holds; short = h; kept = s .kept ∙ sym (kept-root b (picksOf m bits)) }
+
+-- ---- few rows, stored unasked
+
+both : (t u : Bool) → (t && u) ≡ true → (t ≡ true) × (u ≡ true)
+both true u e = (refl, e)
+both false u e = let z : _≡_ {A = ℕ} 0 1 = cc in absurd (omega arith)
+
+not-asked : (t : Bool) → not t ≡ true → t ≡ false
+not-asked true e = sym e
+not-asked false e = refl
+
+pub is-few : (asked x y z : Bool) (kept len : ℕ) → Few ((((not asked && x) && y) && z) && leb kept (len / 64)) asked kept len
+is-few asked x y z kept len =
+    record {
+      unasked = λ e. not-asked asked (both (not asked) x (both (not asked && x) y (both ((not asked && x) && y) z (both (((not asked && x) && y) && z) (leb kept (len / 64)) e .0) .0) .0) .0);
+      few = λ e. let h : kept ≤ len / 64 = leb-true kept (len / 64) (both (((not asked && x) && y) && z) (leb kept (len / 64)) e .1) in omega arith;
+    }
+
+module _ {m : List ℕ} {bits : Bits} {route : Route} {asked : Bool} {list : List ℕ} {t : Bool} {kept : ℕ} (f : Routed m bits route asked list) (g : Few t asked kept (bits .len)) (e : t ≡ true) where
+  -- at most one in 64 of a mask's slots
+  pub rows-few : kept ≡ length (picksOf m bits) → length (picksOf m bits) ≤ 16_384
+  rows-few k = let short = mask.few-slots (counted f) in let h = g .few e in omega arith
+
+  -- the caller's list is as it was
+  pub unlisted : list ≡ over (cond asked (entries m) []) list
+  unfolding over
+  unlisted = rw (g .unasked e)
+
+-- the picked rows, stored in a list that has a place for each
+module _ (m : List ℕ) (bits : Bits) {places : ℕ} (few : length (picksOf m bits) ≤ places) where
+  pub rows-fit : length (picksFrom (slotOf m bits) (bits .len) 0) ≤ places
+  rows-fit = rw (count-picks m bits) few
+
+  pub selects-stored : {b old new : List ℕ} {n : ℕ} → length old ≡ places → Lies m bits → Wrote old 0 (picksFrom (slotOf m bits) (bits .len) 0) new n → bits .len ≤ rows b 0
+      → Selects b 0 (picksOf m bits) (Rows (Stored n)) m bits new
+  selects-stored {b} q h w l =
+      record {
+        sourced = h;
+        holds = record { inside = omega arith; agrees = rw picks-start (front w (rw q rows-fit)) };
+        short = l;
+        kept = sym (chosen-picks (slotOf m bits) (bits .len)) ∙ sym (kept-root b (picksOf m bits));
+      }

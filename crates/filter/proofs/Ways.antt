@@ -29,7 +29,7 @@ use Rattle.slots.specs.declared.Bits.{Bits}
 use Rattle.slots.specs.Source.{slotOf, Lies}
 use Rattle.slots.specs.Node.{bitsOf}
 use Rattle.slots.proofs.Masked.{mask-picks}
-use Rattle.predicate.proofs.Slips as mask
+use Rattle.prepare.proofs.Slips as mask
 use Rattle.nesting.specs.Rows.{picksOf, Ready, Table, Counts}
 use Rattle.nesting.proofs.Picks.{picks-sifted, count-picks}
 use Rattle.filter.specs.Call.{Accepted, Listed, Roomy, Routed}

@@ -1,5 +1,5 @@
 -- How far a call has come: what its inner functions may rest on. Assumes nothing.
-use Prim.Native.Nat.{ℕ, _≤_}
+use Prim.Native.Nat.{ℕ, _*_, _≤_}
 use mathlib.Core.Bool.{Bool, true, false, cond}
 use mathlib.Core.List.{List, []}
 use mathlib.Core.Path.{_≡_}
@@ -17,7 +17,7 @@ use Rattle.slots.specs.declared.Bits.{Bits}
 use Rattle.slots.specs.Node.{bitsOf}
 use Rattle.predicate.specs.declared.Selection.{Selection}
 use Rattle.predicate.specs.Selection.{Holds, Sourced, keptBy}
-use Rattle.predicate.specs.Prepare.{Counted}
+use Rattle.prepare.specs.Prepare.{Counted}
 use Rattle.nesting.specs.Rows.{picksOf, Ready}
 
 -- mask and journal are accepted and the count is right
@@ -55,3 +55,8 @@ pub record Selected (m : List ℕ) (bits : Bits) (asked : Bool) (old new : List 
   pub holds : Holds sel (keptBy sel m bits) (bits .len) new
   pub kept : picksFrom (keptBy sel m bits) (bits .len) 0 ≡ picksOf m bits
   pub listed : new ≡ over (cond asked (entries m) []) old
+
+-- the answer is true only where no list is asked for and at most one in 64 slots is picked
+pub record Few (t asked : Bool) (kept len : ℕ) : Type 0 where
+  pub unasked : t ≡ true → asked ≡ false
+  pub few : t ≡ true → 64 * kept ≤ len

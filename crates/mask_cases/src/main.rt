@@ -53,7 +53,7 @@ fn prepares(name: &[u8], slots: u8, bits: u8) {
     let mask = mask_of(slots, bits);
     let mut list = [99u32; 6];
     io::write_all(1, name);
-    match predicate::prepare(&mask, false, 0, true, &mut list) {
+    match prepare::prepare(&mask, false, 0, true, &mut list) {
         Prepared::Ready { kept, slots, route } => {
             io::write_all(1, b": ");
             io::print_decimal(1, kept);

@@ -25,8 +25,12 @@ pub fn null_at_root(mask: &[u8], bits: Bits, journal: &[u8], first: usize) -> bo
     let len = bits.len;
     let mut w: usize = 0;
     while 64 * w < len {
-        let x = slots::word(mask, bits, w);
-        let v = slots::bits64(journal, first + 64 * w);
+        let x = if 64 * w + 128 <= len {
+            slots::word_in(mask, bits, w)
+        } else {
+            slots::word(mask, bits, w)
+        };
+        let v = slots::load64(journal, first + 64 * w);
         w += 1;
         if x & v != x {
             return true;
@@ -76,9 +80,17 @@ pub fn bytes_at_root(
     let mut n: usize = 0;
     let mut i: usize = 0;
     while 64 * i < len {
-        let x = slots::word(mask, bits, i);
-        n += word_bytes(journal, first, w, 64 * i, x);
+        let x = if 64 * i + 128 <= len {
+            slots::word_in(mask, bits, i)
+        } else {
+            slots::word(mask, bits, i)
+        };
+        let base = 64 * i;
         i += 1;
+        // An empty word costs this test alone.
+        if x != 0 {
+            n += word_bytes(journal, first, w, base, x);
+        }
     }
     n
 }

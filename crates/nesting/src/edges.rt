@@ -46,7 +46,13 @@ pub fn count_runs(mask: &[u8], bits: Bits, journal: &[u8], table: &[u32; 640], i
     let mut j: usize = 0;
     while j < runs {
         let hi = end_edge(journal, table, i, j, len);
-        n += slots::any_within(mask, bits, lo, hi) as usize;
+        // A run that is one word of the mask is asked without a call.
+        let some = if (hi - lo <= 57) & (lo + 64 <= len) {
+            slots::any_short(mask, bits, lo, hi)
+        } else {
+            slots::any_within(mask, bits, lo, hi)
+        };
+        n += some as usize;
         lo = hi;
         j += 1;
     }

@@ -7,7 +7,8 @@ use Rattle.format.specs.Bytes.{padded}
 use Rattle.format.specs.Kept.{Column, KeptNode}
 use Rattle.format.specs.Write.{Buffer, absent, holds, with, place, numbers, addNode, written, noColumn, noNode}
 use Rattle.append.specs.Cells.{zeros, padding}
-use Rattle.nodes.specs.Body.{appended, ending, startOf, nodeBody, nodeFields}
+use Rattle.buffers.specs.Place.{appended, ending, startOf}
+use Rattle.nodes.specs.Body.{nodeBody, nodeFields}
 
 -- a buffer is added at the body's end
 with-appended : (body : List ℕ) (x : Buffer) → with body x ≡ body ++ appended (length body) x

@@ -14,18 +14,21 @@ use Rattle.format.specs.Kept.{cells, texts, ownBytes}
 use Rattle.format.specs.Node.{kind, param, rows, skip, places, firstAt, secondAt, secondLength, child}
 use Rattle.format.specs.Verdict.{firstSize, secondSize}
 use Rattle.format.specs.Write.{absent, holds, first, second, numbers, offsets}
-use Rattle.append.specs.Cells.{entriesOf, offset, sizesOf, textsOf, Entries, Texts}
-use Rattle.append.proofs.NodeLaws.{first-offset}
+use Rattle.append.specs.Cells.{entriesOf, Entries}
+use Rattle.texts.specs.Texts.{offset, sizesOf, textsOf, Texts}
+use Rattle.texts.proofs.NodeLaws.{first-offset}
 use Rattle.bitmaps.specs.Push.{bitFrom}
-use Rattle.columns.proofs.Buffers.{kept-among, first-of-entries, first-of-ranges, second-of-ranges, first-of-texts, second-of-texts}
+use Rattle.columns.proofs.Buffers.{kept-among, first-of-entries, first-of-ranges, second-of-ranges}
+use Rattle.text_columns.proofs.Buffers.{first-of-texts, second-of-texts}
 use Rattle.runs.specs.Groups.{EndsLie, sizeAt, endBytes}
 use Rattle.runs.proofs.NodeLaws.{run-cells, ends-lie}
 use Rattle.pack.specs.declared.Node.{Node}
 use Rattle.predicate.specs.declared.Selection.{Selection}
 use Rattle.predicate.specs.Selection.{keptBy}
 use Rattle.slots.specs.declared.Bits.{Bits}
-use Rattle.nodes.proofs.PutLaws.{map-same}
-use Rattle.nodes.specs.Place.{rowsBy, Picked, Copies, Sizes, sizes32, sizes64, ofNative, ofFixed, ofViews, ofLists32, ofLists64, ofUnion, ofDictionary}
+use Rattle.nodes.proofs.NullLaws.{map-same}
+use Rattle.buffers.specs.Place.{rowsBy}
+use Rattle.nodes.specs.Place.{Picked, Copies, Sizes, sizes32, sizes64, ofNative, ofFixed, ofViews, ofLists32, ofLists64, ofUnion, ofDictionary}
 
 module _ (b : List ℕ) (i : ℕ) (rs : List ℕ) where
   pub first-copies : {k : Kind} {w : ℕ} → Copies k (param b i) w → first (cells k b i rs) ≡ holds (entriesOf w b (firstAt b i + w * skip b i) rs)

@@ -1,3 +1,4 @@
+-- The laws of a node's buffers: its bitmap, its first and second buffer, and what all three add to the body.
 pub mod BodyLaws
-pub mod PutLaws
+pub mod NullLaws
 pub mod BufferLaws

@@ -1,26 +1,11 @@
 -- What a node adds to the body and to the table, from the place where the body ends ("Written"). Assumes nothing.
-use Prim.Native.Nat.{ℕ, _+_}
+use Prim.Native.Nat.{ℕ}
 use mathlib.Core.List.{List, [], _∷_, _++_}
 use lib.ListN.{length}
-use Rattle.format.specs.Bytes.{raised}
 use Rattle.format.specs.Node.{noBitmap}
 use Rattle.format.specs.Kept.{Column, KeptNode}
-use Rattle.append.specs.Cells.{padding}
-use Rattle.format.specs.Write.{Buffer, absent, holds, bitmap, first, second, dataLength}
-
--- what a buffer adds to a body that ends at a place
-unfoldable pub appended : ℕ → Buffer → List ℕ
-appended at absent = []
-appended at (holds x) = padding at ++ x
-
--- where the body ends after a buffer
-unfoldable pub ending : ℕ → Buffer → ℕ
-ending at x = at + length (appended at x)
-
--- where a buffer starts; an absent one has a resting value
-unfoldable pub startOf : ℕ → ℕ → Buffer → ℕ
-startOf rest at absent = rest
-startOf rest at (holds x) = raised at
+use Rattle.format.specs.Write.{bitmap, first, second, dataLength}
+use Rattle.buffers.specs.Place.{appended, ending, startOf}
 
 -- what a node's bitmap, first and second buffers add, in this order
 unfoldable pub nodeBody : ℕ → KeptNode → List ℕ

@@ -1,26 +1,16 @@
--- Where a node's buffer is put, and what one node asks of the selection that picks its rows. Assumes nothing.
+-- What one node asks of the selection that picks its rows, and which kinds copy entries. Assumes nothing.
 use Prim.Native.Nat.{ℕ, _≤_, _<_}
 use mathlib.Core.List.{List}
 use mathlib.Core.Path.{_≡_}
-use lib.ListN.{length}
 use Rattle.format.specs.declared.Kind.{Kind}
 use Rattle.format.specs.declared.Kind.the-variants.{Native, Fixed, Views, Lists32, Lists64, Runs, Union, Dictionary}
 use Rattle.format.specs.Accepted.{Sound}
 use Rattle.format.specs.Node.{nodeCount, kind, rows, child}
-use Rattle.format.specs.Put.{Wrote}
-use Rattle.format.specs.Slots.{picksFrom}
-use Rattle.format.specs.Write.{Buffer}
 use Rattle.pack.specs.Read.{nodeOf}
 use Rattle.pack.specs.declared.Node.{Node}
 use Rattle.predicate.specs.declared.Selection.{Selection}
 use Rattle.predicate.specs.Selection.{Holds, Sourced, keptBy}
 use Rattle.slots.specs.declared.Bits.{Bits}
-use Rattle.nodes.specs.declared.Placed.{Placed}
-use Rattle.nodes.specs.Body.{appended, startOf}
-
--- the rows that a selection picks
-abbrev pub rowsBy : Selection → List ℕ → Bits → List ℕ
-rowsBy sel s mask = picksFrom (keptBy sel s mask) (mask .len) 0
 
 -- node i of an accepted journal, its fields, and a selection of its rows
 pub record Picked (b : List ℕ) (i : ℕ) (node : Node) (sel : Selection) (s : List ℕ) (mask : Bits) (list : List ℕ) : Type 0 where
@@ -30,11 +20,6 @@ pub record Picked (b : List ℕ) (i : ℕ) (node : Node) (sel : Selection) (s : 
   pub sourced : Sourced sel s mask
   pub holds : Holds sel (keptBy sel s mask) (mask .len) list
   pub short : mask .len ≤ rows b i
-
--- a buffer is put behind the place where the body ends: its bytes and its start
-pub record Puts (rest : ℕ) (x : Buffer) (old : List ℕ) (at : ℕ) (new : List ℕ) (r : Placed) : Type 0 where
-  pub wrote : Wrote old at (appended at x) new (r .next)
-  pub starts : r .start ≡ startOf rest at x
 
 -- the kinds whose first buffer has entries, copied as they are: kind, param, and bytes to an entry
 pub data Copies : Kind → ℕ → ℕ → Type 0 where

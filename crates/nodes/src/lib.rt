@@ -1,18 +1,14 @@
 // One node of an extract: its bitmap, first and second buffer, each behind the body so far, padded to a multiple of 8.
 ghost use mathlib.Core.Path.{_≡_};
 ghost use mathlib.Core.List.{map};
-ghost use Prim.Native.Nat.{_+_, _*_, _^_, _≤_, _<_};
+ghost use Prim.Native.Nat.{_+_, _*_, _≤_};
 ghost use lib.ListN.{length};
-ghost use Rattle.format.specs.Bytes.{packed};
 ghost use Rattle.format.specs.Kept.{cells};
 ghost use Rattle.format.specs.Node.{valid, noBitmap, rows, kind, param, child};
-ghost use Rattle.format.specs.Write.{anyNull, bitmap, holds, first, second, numbers, offsets};
-ghost use Rattle.append.specs.Cells.{entriesOf, offset, sizesOf, textsOf, totalOf, Entries, Offsets, Texts};
-ghost use Rattle.bitmaps.specs.Push.{bitFrom};
-ghost use Rattle.runs.specs.Groups.{EndsLie, sizeAt, endBytes};
-ghost use Rattle.predicate.specs.Selection.{Holds, Readable, Sourced, keptBy};
-ghost use Rattle.nodes.specs.Body.{appended};
-ghost use Rattle.nodes.specs.Place.{rowsBy, Picked, Puts, Copies, Sizes, Kinded};
+ghost use Rattle.format.specs.Write.{anyNull, bitmap, first, second};
+ghost use Rattle.buffers.specs.Place.{appended, rowsBy, Puts};
+ghost use Rattle.nodes.specs.Place.{Picked, Copies, Sizes, Kinded};
+use buffers::Placed;
 use format::Kind;
 use pack::Node;
 use predicate::Selection;
@@ -20,12 +16,6 @@ use slots::Bits;
 
 // Validity at this place: no bitmap.
 const NO_BITMAP: usize = 0xFFFF_FFFF;
-
-// Where a buffer starts, and where the body ends behind it.
-pub struct Placed {
-    pub start: usize,
-    pub next: usize,
-}
 
 // The bitmap of the kept rows, only if one of them is null.
 pub fn filter_nulls(
@@ -58,201 +48,6 @@ pub fn filter_nulls(
     }
 }
 
-// The entries of the kept rows, width bytes each, row 0 at `place`.
-fn put_entries(
-    out: &mut [u8],
-    at: usize,
-    journal: &[u8],
-    place: usize,
-    width: usize,
-    sel: Selection,
-    s: &[u8],
-    mask: Bits,
-    list: &[u32],
-) -> Placed
-    requires { ⌜ Readable sel (now s) mask ⌝ }
-    requires { ⌜ Holds sel (keptBy sel (now s) mask) (mask .len) (now list) ⌝ }
-    requires { ⌜ Entries width (now journal) place (mask .len) ⌝ }
-    requires { ⌜ at + length (appended at (holds (entriesOf width (now journal) place (rowsBy sel (now s) mask)))) ≤ length (now out) ⌝ }
-    ensures { λ r. ⌜ Puts 0 (holds (entriesOf width (now (journal .entry)) place (rowsBy sel (now (s .entry)) mask))) (now (out .entry)) at (now (out .exit)) r ⌝ }
-{
-    let start = append::fields::pad(out, at);
-    let next = columns::native::filter_native(
-        out,
-        start,
-        journal,
-        place,
-        width,
-        sel,
-        s,
-        mask,
-        list,
-    );
-    Placed { start, next }
-}
-
-// The offsets of the kept rows rebuilt from 0, 4 bytes each, row 0's at `place`.
-fn put_offsets32(
-    out: &mut [u8],
-    at: usize,
-    journal: &[u8],
-    place: usize,
-    sel: Selection,
-    s: &[u8],
-    mask: Bits,
-    list: &[u32],
-) -> Placed
-    requires { ⌜ Readable sel (now s) mask ⌝ }
-    requires { ⌜ Holds sel (keptBy sel (now s) mask) (mask .len) (now list) ⌝ }
-    requires { ⌜ Offsets 4 (now journal) place (mask .len) ⌝ }
-    requires { ⌜ at + length (appended at (holds (numbers 4 (offsets (sizesOf (offset 4 (now journal) place) (rowsBy sel (now s) mask)))))) ≤ length (now out) ⌝ }
-    ensures { λ r. ⌜ Puts 0 (holds (numbers 4 (offsets (sizesOf (offset 4 (now (journal .entry)) place) (rowsBy sel (now (s .entry)) mask))))) (now (out .entry)) at (now (out .exit)) r ⌝ }
-{
-    let start = append::fields::pad(out, at);
-    let to = columns::texts::filter_offsets32(out, start, journal, place, sel, s, mask, list);
-    Placed {
-        start,
-        next: to.next,
-    }
-}
-
-// The own bytes of the kept rows, whose data starts at `data_at`.
-fn put_texts32(
-    out: &mut [u8],
-    at: usize,
-    journal: &[u8],
-    place: usize,
-    data_at: usize,
-    sel: Selection,
-    s: &[u8],
-    mask: Bits,
-    list: &[u32],
-) -> Placed
-    requires { ⌜ Readable sel (now s) mask ⌝ }
-    requires { ⌜ Holds sel (keptBy sel (now s) mask) (mask .len) (now list) ⌝ }
-    requires { ⌜ Texts 4 (now journal) place «data_at» (mask .len) ⌝ }
-    requires { ⌜ at + length (appended at (holds (textsOf (offset 4 (now journal) place) (now journal) «data_at» (rowsBy sel (now s) mask)))) ≤ length (now out) ⌝ }
-    ensures { λ r. ⌜ Puts 0 (holds (textsOf (offset 4 (now (journal .entry)) place) (now (journal .entry)) «data_at» (rowsBy sel (now (s .entry)) mask))) (now (out .entry)) at (now (out .exit)) r ⌝ }
-{
-    let start = append::fields::pad(out, at);
-    let next = columns::texts::filter_texts32(
-        out,
-        start,
-        journal,
-        place,
-        data_at,
-        sel,
-        s,
-        mask,
-        list,
-    );
-    Placed { start, next }
-}
-
-// The offsets of the kept rows rebuilt from 0, 8 bytes each, row 0's at `place`.
-fn put_offsets64(
-    out: &mut [u8],
-    at: usize,
-    journal: &[u8],
-    place: usize,
-    sel: Selection,
-    s: &[u8],
-    mask: Bits,
-    list: &[u32],
-) -> Placed
-    requires { ⌜ Readable sel (now s) mask ⌝ }
-    requires { ⌜ Holds sel (keptBy sel (now s) mask) (mask .len) (now list) ⌝ }
-    requires { ⌜ Offsets 8 (now journal) place (mask .len) ⌝ }
-    requires { ⌜ at + length (appended at (holds (numbers 8 (offsets (sizesOf (offset 8 (now journal) place) (rowsBy sel (now s) mask)))))) ≤ length (now out) ⌝ }
-    ensures { λ r. ⌜ Puts 0 (holds (numbers 8 (offsets (sizesOf (offset 8 (now (journal .entry)) place) (rowsBy sel (now (s .entry)) mask))))) (now (out .entry)) at (now (out .exit)) r ⌝ }
-{
-    let start = append::fields::pad(out, at);
-    let to = columns::texts::filter_offsets64(out, start, journal, place, sel, s, mask, list);
-    Placed {
-        start,
-        next: to.next,
-    }
-}
-
-// The own bytes of the kept rows, whose data starts at `data_at`.
-fn put_texts64(
-    out: &mut [u8],
-    at: usize,
-    journal: &[u8],
-    place: usize,
-    data_at: usize,
-    sel: Selection,
-    s: &[u8],
-    mask: Bits,
-    list: &[u32],
-) -> Placed
-    requires { ⌜ Readable sel (now s) mask ⌝ }
-    requires { ⌜ Holds sel (keptBy sel (now s) mask) (mask .len) (now list) ⌝ }
-    requires { ⌜ Texts 8 (now journal) place «data_at» (mask .len) ⌝ }
-    requires { ⌜ at + length (appended at (holds (textsOf (offset 8 (now journal) place) (now journal) «data_at» (rowsBy sel (now s) mask)))) ≤ length (now out) ⌝ }
-    ensures { λ r. ⌜ Puts 0 (holds (textsOf (offset 8 (now (journal .entry)) place) (now (journal .entry)) «data_at» (rowsBy sel (now (s .entry)) mask))) (now (out .entry)) at (now (out .exit)) r ⌝ }
-{
-    let start = append::fields::pad(out, at);
-    let next = columns::texts::filter_texts64(
-        out,
-        start,
-        journal,
-        place,
-        data_at,
-        sel,
-        s,
-        mask,
-        list,
-    );
-    Placed { start, next }
-}
-
-// The bits of the kept rows, row 0 at bit `from`.
-fn put_bits(
-    out: &mut [u8],
-    at: usize,
-    journal: &[u8],
-    from: usize,
-    sel: Selection,
-    s: &[u8],
-    mask: Bits,
-    list: &[u32],
-    count: usize,
-) -> Placed
-    requires { ⌜ Sourced sel (now s) mask ⌝ }
-    requires { ⌜ Holds sel (keptBy sel (now s) mask) (mask .len) (now list) ⌝ }
-    requires { ⌜ from + mask .len < 2 ^ 61 ⌝ }
-    requires { ⌜ at + length (appended at (holds (packed (map (bitFrom (now journal) from) (rowsBy sel (now s) mask))))) ≤ length (now out) ⌝ }
-    ensures { λ r. ⌜ Puts 0 (holds (packed (map (bitFrom (now (journal .entry)) from) (rowsBy sel (now (s .entry)) mask)))) (now (out .entry)) at (now (out .exit)) r ⌝ }
-{
-    let start = append::fields::pad(out, at);
-    let next = bitmaps::filter_bits(out, start, journal, from, sel, s, mask, list, count);
-    Placed { start, next }
-}
-
-// The run ends of the runs that keep a row, of n runs whose ends stand at `place`.
-fn put_run_ends(
-    out: &mut [u8],
-    at: usize,
-    journal: &[u8],
-    place: usize,
-    width: usize,
-    n: usize,
-    skip: usize,
-    sel: Selection,
-    s: &[u8],
-    mask: Bits,
-) -> Placed
-    requires { ⌜ EndsLie width (now journal) place n ⌝ }
-    requires { ⌜ Sourced sel (now s) mask ⌝ }
-    requires { ⌜ at + length (appended at (holds (endBytes width (sizeAt width (now journal) place skip (rowsBy sel (now s) mask)) n))) ≤ length (now out) ⌝ }
-    ensures { λ r. ⌜ Puts 0 (holds (endBytes width (sizeAt width (now (journal .entry)) place skip (rowsBy sel (now (s .entry)) mask)) n)) (now (out .entry)) at (now (out .exit)) r ⌝ }
-{
-    let start = append::fields::pad(out, at);
-    let next = runs::filter_run_ends(out, start, journal, place, width, n, skip, sel, s, mask);
-    Placed { start, next }
-}
-
 // Where row 0 of a node stands in a buffer of entries.
 fn row_zero(at: u32, width: usize, skip: u32) -> usize
     requires { ⌜ width ≤ 1024 ⌝ }
@@ -280,7 +75,7 @@ fn first_entries(
     ensures { λ r. ⌜ Puts 0 (first (cells (kind (now (journal .entry)) i) (now (journal .entry)) i (rowsBy sel (now (s .entry)) mask))) (now (out .entry)) at (now (out .exit)) r ⌝ }
 {
     let place = row_zero(node.first_at, width, node.skip);
-    put_entries(out, at, journal, place, width, sel, s, mask, list)
+    buffers::put_entries(out, at, journal, place, width, sel, s, mask, list)
 }
 
 // The first buffer of a node of bits.
@@ -302,7 +97,7 @@ fn first_bits(
     ensures { λ r. ⌜ Puts 0 (first (cells (kind (now (journal .entry)) i) (now (journal .entry)) i (rowsBy sel (now (s .entry)) mask))) (now (out .entry)) at (now (out .exit)) r ⌝ }
 {
     let from = 8 * (node.first_at as usize) + node.skip as usize;
-    put_bits(out, at, journal, from, sel, s, mask, list, count)
+    buffers::put_bits(out, at, journal, from, sel, s, mask, list, count)
 }
 
 // The first buffer of a byte column with offsets of 4 bytes.
@@ -323,7 +118,7 @@ fn first_offsets32(
     ensures { λ r. ⌜ Puts 0 (first (cells (kind (now (journal .entry)) i) (now (journal .entry)) i (rowsBy sel (now (s .entry)) mask))) (now (out .entry)) at (now (out .exit)) r ⌝ }
 {
     let place = row_zero(node.first_at, 4, node.skip);
-    put_offsets32(out, at, journal, place, sel, s, mask, list)
+    buffers::put_offsets32(out, at, journal, place, sel, s, mask, list)
 }
 
 // Its second buffer: the data.
@@ -344,7 +139,7 @@ fn second_texts32(
     ensures { λ r. ⌜ Puts 0 (second (cells (kind (now (journal .entry)) i) (now (journal .entry)) i (rowsBy sel (now (s .entry)) mask))) (now (out .entry)) at (now (out .exit)) r ⌝ }
 {
     let place = row_zero(node.first_at, 4, node.skip);
-    put_texts32(
+    buffers::put_texts32(
         out,
         at,
         journal,
@@ -375,7 +170,7 @@ fn first_offsets64(
     ensures { λ r. ⌜ Puts 0 (first (cells (kind (now (journal .entry)) i) (now (journal .entry)) i (rowsBy sel (now (s .entry)) mask))) (now (out .entry)) at (now (out .exit)) r ⌝ }
 {
     let place = row_zero(node.first_at, 8, node.skip);
-    put_offsets64(out, at, journal, place, sel, s, mask, list)
+    buffers::put_offsets64(out, at, journal, place, sel, s, mask, list)
 }
 
 // Its second buffer: the data.
@@ -396,7 +191,7 @@ fn second_texts64(
     ensures { λ r. ⌜ Puts 0 (second (cells (kind (now (journal .entry)) i) (now (journal .entry)) i (rowsBy sel (now (s .entry)) mask))) (now (out .entry)) at (now (out .exit)) r ⌝ }
 {
     let place = row_zero(node.first_at, 8, node.skip);
-    put_texts64(
+    buffers::put_texts64(
         out,
         at,
         journal,
@@ -427,7 +222,7 @@ fn first_runs(
     requires { ⌜ at + length (appended at (first (cells (kind (now journal) i) (now journal) i (rowsBy sel (now s) mask)))) ≤ length (now out) ⌝ }
     ensures { λ r. ⌜ Puts 0 (first (cells (kind (now (journal .entry)) i) (now (journal .entry)) i (rowsBy sel (now (s .entry)) mask))) (now (out .entry)) at (now (out .exit)) r ⌝ }
 {
-    put_run_ends(
+    buffers::put_run_ends(
         out,
         at,
         journal,
@@ -500,7 +295,7 @@ fn second_sizes(
     ensures { λ r. ⌜ Puts 0 (second (cells (kind (now (journal .entry)) i) (now (journal .entry)) i (rowsBy sel (now (s .entry)) mask))) (now (out .entry)) at (now (out .exit)) r ⌝ }
 {
     let place = row_zero(node.second_at, width, node.skip);
-    put_entries(out, at, journal, place, width, sel, s, mask, list)
+    buffers::put_entries(out, at, journal, place, width, sel, s, mask, list)
 }
 
 // The second buffer of a node of kind k: the data of a byte column, the sizes of list views, and of the others none.

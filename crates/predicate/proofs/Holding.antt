@@ -53,7 +53,7 @@ everything-holds p len e = record { inside = omega arith; agrees = (refl, rw zer
 -- ---- by the stored list
 
 -- what was written at the front of a list is its first entries
-front : {old xs new : List ℕ} {n : ℕ} → Wrote old 0 xs new n → length xs ≤ length old → Lists new 0 n xs
+pub front : {old xs new : List ℕ} {n : ℕ} → Wrote old 0 xs new n → length xs ≤ length old → Lists new 0 n xs
 unfolding bytesAt over
 front {old} {xs} {new} {n} w h =
     let q : n ≡ length xs = omega (arith, w .place) in

@@ -1,6 +1,5 @@
--- Laws of picks and lists, of blocks, of a word's runs, of the selections that hold, and of a prepared mask's answer.
+-- Laws of picks and lists, of blocks, of a word's runs, and of the selections that hold.
 pub mod Picks
 pub mod Steps
 pub mod WordRuns
 pub mod Holding
-pub mod Slips

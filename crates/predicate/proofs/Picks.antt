@@ -33,6 +33,21 @@ picks-span {p} {from} {a} {e} len l m h before within =
     let j : a + (e - a) ≡ e = omega arith in
     rw (n, picks-cat, i, picks-cat p (e - a), j, picks-none p (a - from) from (rw i before), picks-all p (e - a) a (rw j within))
 
+-- some rows off the picks
+pub picks-upto : (p : ℕ → Bool) (len from to : ℕ) → from ≤ to → to ≤ len → picksOn p len from ≡ picksFrom p (to - from) from ++ picksOn p len to
+unfolding picksOn
+picks-upto p len from to l h =
+    let n : len - from ≡ (to - from) + (len - to) = omega arith in
+    let i : from + (to - from) ≡ to = omega arith in
+    rw (n, picks-cat, i)
+
+-- and a word more
+pub picks-next : (p : ℕ → Bool) (from i next : ℕ) {x : ℕ} → from ≤ i → next ≡ i + 64 → x ≡ wordFrom p 64 i → picksFrom p (next - from) from ≡ picksFrom p (i - from) from ++ setRows i x
+picks-next p from i next l e is =
+    let n : next - from ≡ (i - from) + 64 = omega arith in
+    let j : from + (i - from) ≡ i = omega arith in
+    rw (n, picks-cat, j, is, set-from)
+
 pub picks-end : {p : ℕ → Bool} {from len : ℕ} → All p false from len → picksOn p len from ≡ []
 unfolding picksOn
 picks-end {p} {from} {len} all = picks-none p (len - from) from (record { at = λ j l h. all .at j l (omega arith) })

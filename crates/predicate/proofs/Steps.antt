@@ -1,6 +1,6 @@
 -- Each case of a selection gives its next block, and the cursor stays in step. Assumes nothing.
 use Prim.Native.Nat.{ℕ, _+_, _-_, _≤_, _<_}
-use mathlib.Core.Bool.{Bool, false}
+use mathlib.Core.Bool.{Bool, true, false, false≢true}
 use mathlib.Core.List.{List, [], _∷_, _++_, append-nil}
 use mathlib.Core.Path.{_≡_, refl, sym, ap, _∙_}
 use native.Mathlib.Omega.{arith}
@@ -13,11 +13,13 @@ use Rattle.format.proofs.RowLaws.{set-from, below-left, below-picks, list-more}
 use Rattle.format.proofs.SlotLaws.{all-none}
 use Rattle.predicate.specs.declared.Held.the-variants.{Stored, Lazy}
 use Rattle.predicate.specs.declared.Selection.{Selection}
-use Rattle.predicate.specs.declared.Selection.the-variants.{Everything, Runs, Rows}
+use Rattle.slots.specs.Source.{slotOf, Lies}
+use Rattle.slots.specs.declared.Bits.{Bits}
+use Rattle.predicate.specs.declared.Selection.the-variants.{Nothing, Everything, Runs, Rows}
 use Rattle.predicate.specs.declared.Cursor.{Cursor}
 use Rattle.predicate.specs.declared.Block.{Block}
 use Rattle.predicate.specs.declared.Block.the-variants as block
-use Rattle.predicate.specs.Selection.{picksOn, edgesOn, InStep}
+use Rattle.predicate.specs.Selection.{picksOn, edgesOn, InStep, Readable, keptBy, lazy}
 use Rattle.predicate.specs.Blocks.{Leaves, Gives, Blocked, Worded}
 use Rattle.predicate.proofs.Picks.{picks-span, picks-end, picks-over, picks-word, edges-head, edges-empty, picks-head}
 
@@ -159,3 +161,28 @@ module _ {sel : Selection} {p : ℕ → Bool} {len : ℕ} {list : List ℕ} {fro
       let m = g .moves in
       let i = g .step .inside in
       below-left xs _ (rw (g .rest) at (below-picks p len (len - from) from (omega arith)))
+
+-- ---- for a consumer that takes the mask's words itself
+
+-- a lazy selection has its bits in the slice, keeps what they pick, and any cursor is in step with it
+pub lazy-lies : (sel : Selection) {s : List ℕ} {b : Bits} → lazy sel ≡ true → Readable sel s b → Lies s b
+lazy-lies Nothing e h = absurd (false≢true e)
+lazy-lies (Everything n) e h = absurd (false≢true e)
+lazy-lies (Runs (Stored n)) e h = absurd (false≢true e)
+lazy-lies (Runs Lazy) e h = h
+lazy-lies (Rows (Stored n)) e h = absurd (false≢true e)
+lazy-lies (Rows Lazy) e h = h
+
+pub lazy-kept : (sel : Selection) (s : List ℕ) (b : Bits) → lazy sel ≡ true → keptBy sel s b ≡ slotOf s b
+lazy-kept Nothing s b e = absurd (false≢true e)
+lazy-kept (Everything n) s b e = absurd (false≢true e)
+lazy-kept (Runs h) s b e = refl
+lazy-kept (Rows h) s b e = refl
+
+pub lazy-step : (sel : Selection) {p : ℕ → Bool} {len : ℕ} {list : List ℕ} (d : Cursor) → lazy sel ≡ true → d .place ≤ len → InStep sel p len list d
+lazy-step Nothing d e i = absurd (false≢true e)
+lazy-step (Everything n) d e i = absurd (false≢true e)
+lazy-step (Runs (Stored n)) d e i = absurd (false≢true e)
+lazy-step (Runs Lazy) d e i = runs-lazy d i
+lazy-step (Rows (Stored n)) d e i = absurd (false≢true e)
+lazy-step (Rows Lazy) d e i = rows-lazy d i

@@ -1,4 +1,3 @@
 -- What the contracts of this crate cite.
 pub mod Selection
 pub mod Blocks
-pub mod Prepare

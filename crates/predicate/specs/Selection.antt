@@ -75,6 +75,14 @@ Readable (Runs Lazy) s b = Lies s b
 Readable (Rows (Stored n)) s b = Unit {0}
 Readable (Rows Lazy) s b = Lies s b
 
+abbrev pub lazy : Selection → Bool
+lazy Nothing = false
+lazy (Everything n) = false
+lazy (Runs (Stored n)) = false
+lazy (Runs Lazy) = true
+lazy (Rows (Stored n)) = false
+lazy (Rows Lazy) = true
+
 -- one that goes by runs or rows has its bits in the slice, stored or lazy: what compress and counting read
 abbrev pub Sourced : Selection → List ℕ → Bits → Type 0
 Sourced Nothing s b = Unit {0}

@@ -5,17 +5,10 @@ ghost use lib.ListN.{length};
 ghost use Rattle.format.specs.Put.{Wrote};
 ghost use Rattle.format.specs.Rows.{setRows, Below};
 ghost use Rattle.format.specs.Slots.{picksFrom, runsFrom, startsAndEnds};
-ghost use Rattle.format.specs.Verdict.{maskVerdict};
-ghost use Rattle.format.specs.Answer.{unstated, statedIf, wrongCount, preparing, Prepares};
 ghost use Rattle.slots.specs.Source.{slotOf, Lies};
-ghost use Rattle.slots.specs.Node.{bitsOf};
-ghost use Rattle.predicate.specs.Selection.{InStep, keptBy, Readable, entriesOn, selectionFor};
+ghost use Rattle.predicate.specs.Selection.{InStep, keptBy, Readable, entriesOn, picksOn, selectionFor, lazy};
 ghost use Rattle.predicate.specs.Blocks.{Worded, Blocked, Found, Filled};
-ghost use Rattle.predicate.specs.Prepare.{Counted, Answered};
-use format::Pack;
-use format::Prepared;
 use format::Route;
-use pack::read::node_at;
 use slots::Bits;
 use slots::Run;
 
@@ -89,6 +82,38 @@ fn few(y: u64) -> bool {
     z & std::num::wrapping_sub_u64(z, 1) == 0
 }
 
+// Whether a word starts with 16 set bits: a run that is worth a copy of its own. Nothing is promised here either.
+fn long(x: u64) -> bool {
+    x % 0x1_0000 == 0xFFFF
+}
+
+// Whether the rows of a whole word go better as runs than one by one, as `word_block` decides. Nothing is promised here either: a column
+// that takes the mask's words itself asks for a block where this is so.
+pub fn as_runs(x: u64) -> bool {
+    if x == 0 {
+        return false;
+    }
+    few(std::num::wrapping_sub_u64(slots::ONES, x | (x - 1))) | long(x)
+}
+
+// Whether the mask's own words say which rows are kept.
+pub fn lazy(sel: Selection) -> bool
+    ensures { λ r. ⌜ r ≡ lazy sel ⌝ }
+{
+    match sel {
+        Selection::Nothing => return false,
+        Selection::Everything(_) => return false,
+        Selection::Runs(h) => match h {
+            Held::Stored(_) => return false,
+            Held::Lazy => return true,
+        },
+        Selection::Rows(h) => match h {
+            Held::Stored(_) => return false,
+            Held::Lazy => return true,
+        },
+    }
+}
+
 // The rows of word w from its first kept row on, x being what is left of that word: as a run, which may go on in later words, where at most
 // two rows after the first are not kept. Measured at random masks: against a limit of one, two take up to .08 ns a row more of native columns
 // at 93 to 95 % kept, .04 at 97 % and nothing at 99 %, but 1.3 to 1.9 ns less of texts at 95 to 97 %. In a model of the loops in Rust, four
@@ -101,7 +126,7 @@ fn word_block(s: &[u8], b: Bits, place: usize, w: usize, x: u64, index: usize) -
     let base = 64 * w;
     let t = u64::trailing_zeros(x) as usize;
     let y = (slots::ONES - x) >> t << t;
-    if !few(y) {
+    if !(few(y) | long(x)) {
         return Block::Word(
             base,
             x,
@@ -215,7 +240,21 @@ fn put_word(list: &mut [u32], at: usize, base: usize, word: u64) -> usize
     here
 }
 
-// The picked rows, at the front of the list: how many.
+// The picked rows of the mask's last two words, from word w on, at place `at` of the list.
+fn store_last(s: &[u8], b: Bits, list: &mut [u32], at: usize, w: usize) -> usize
+    requires { ⌜ Lies (now s) b ⌝ }
+    requires { ⌜ (64 * w ≤ b .len) × (b .len < 64 * w + 128) × (b .len < 2 ^ 32) ⌝ }
+    requires { ⌜ at + length (picksOn (slotOf (now s) b) (b .len) (64 * w)) ≤ length (now list) ⌝ }
+    ensures { λ r. ⌜ Wrote (now (list .entry)) at (picksOn (slotOf (now (s .entry)) b) (b .len) (64 * w)) (now (list .exit)) r ⌝ }
+{
+    let here = put_word(list, at, 64 * w, slots::word(s, b, w));
+    if b.len <= 64 * w + 64 {
+        return here;
+    }
+    put_word(list, here, 64 * w + 64, slots::word(s, b, w + 1))
+}
+
+// The picked rows, at the front of the list: how many. The loop has no test but its own: the words whose reads may leave the slice are the last two.
 fn store_rows(s: &[u8], b: Bits, list: &mut [u32]) -> usize
     requires { ⌜ Lies (now s) b ⌝ }
     requires { ⌜ (b .len < 2 ^ 32) × (length (picksFrom (slotOf (now s) b) (b .len) 0) ≤ length (now list)) ⌝ }
@@ -224,16 +263,11 @@ fn store_rows(s: &[u8], b: Bits, list: &mut [u32]) -> usize
     let len = b.len;
     let mut here = 0;
     let mut w: usize = 0;
-    while 64 * w < len {
-        let x = if 64 * w + 128 <= len {
-            slots::word_in(s, b, w)
-        } else {
-            slots::word(s, b, w)
-        };
-        here = put_word(list, here, 64 * w, x);
+    while 64 * w + 128 <= len {
+        here = put_word(list, here, 64 * w, slots::word_in(s, b, w));
         w += 1;
     }
-    here
+    store_last(s, b, list, here, w)
 }
 
 // Start and end of each maximal run of picked rows, at the front of the list: how many entries.
@@ -299,93 +333,4 @@ pub fn selection_of(route: Route, stored: bool, len: usize, n: usize) -> Selecti
         Route::Slices => Selection::Runs(held),
         Route::Indices => Selection::Rows(held),
     }
-}
-
-// Validity at this place: no bitmap.
-const NO_BITMAP: u32 = 0xFFFF_FFFF;
-
-// Where a mask's bits stand.
-pub fn mask_bits(mask: &[u8]) -> Bits
-    ensures { λ r. ⌜ r ≡ bitsOf (now (mask .entry)) 0 ⌝ }
-{
-    let n = node_at(mask, 0);
-    Bits {
-        values_at: n.first_at as usize,
-        has_validity: n.validity_at != NO_BITMAP,
-        validity_at: n.validity_at as usize,
-        skip: n.skip as usize,
-        len: n.rows as usize,
-    }
-}
-
-// Whether a count is stated and wrong.
-pub fn wrong_count(states: bool, stated: u64, kept: usize) -> bool
-    ensures { λ r. ⌜ r ≡ wrongCount (statedIf states stated) kept ⌝ }
-{
-    if states {
-        return stated != kept as u64;
-    }
-    false
-}
-
-// The answer once the mask is accepted and the count is right: the list is stored where it is asked for, and refused where it is short.
-fn prepare_list(mask: &[u8], b: Bits, kept: usize, asked: bool, list: &mut [u32]) -> Prepared
-    requires { ⌜ Counted (now mask) b kept ⌝ }
-    ensures { λ r. ⌜ Answered (preparing (now (mask .entry)) unstated asked (now (list .entry))) r (now (list .exit)) ⌝ }
-{
-    let len = b.len;
-    let route = Route::default_strategy(len, kept);
-    let ready = Prepared::Ready {
-        kept: kept as u64,
-        slots: len as u64,
-        route,
-    };
-    if !asked {
-        return ready;
-    }
-    if list.len() < list_entries(mask, b, route, kept) {
-        return Prepared::Refused {
-            number: 12,
-            pack: Pack::Journal,
-        };
-    }
-    store_list(mask, b, route, list);
-    ready
-}
-
-// The answer once the mask is accepted.
-fn prepare_accepted(
-    mask: &[u8],
-    states: bool,
-    stated: u64,
-    asked: bool,
-    list: &mut [u32],
-) -> Prepared
-    requires { ⌜ maskVerdict (now mask) ≡ 0 ⌝ }
-    ensures { λ r. ⌜ Prepares (preparing (now (mask .entry)) (statedIf states stated) asked (now (list .entry))) r (now (list .exit)) ⌝ }
-{
-    let b = mask_bits(mask);
-    let kept = slots::count(mask, b);
-    if wrong_count(states, stated, kept) {
-        return Prepared::Refused {
-            number: 11,
-            pack: Pack::Mask,
-        };
-    }
-    prepare_list(mask, b, kept, asked, list)
-}
-
-// A mask prepared alone, whatever bytes it is: how many slots it keeps, how many it has and its route, with the list stored where it is asked
-// for; or the slip by which a call with it would be refused.
-pub fn prepare(mask: &[u8], states: bool, stated: u64, asked: bool, list: &mut [u32]) -> Prepared
-    ensures { λ r. ⌜ Prepares (preparing (now (mask .entry)) (statedIf states stated) asked (now (list .entry))) r (now (list .exit)) ⌝ }
-{
-    let number = pack::check_mask(mask);
-    if number != 0 {
-        return Prepared::Refused {
-            number,
-            pack: Pack::Mask,
-        };
-    }
-    prepare_accepted(mask, states, stated, asked, list)
 }

@@ -20,8 +20,8 @@ use Rattle.format.proofs.Numbers.{numbers-none, numbers-append}
 use Rattle.format.proofs.PackedLaws.{numbers-one}
 use Rattle.format.proofs.Put.{none, then, named, same-size}
 use Rattle.format.proofs.SlotLaws.{chosen-picks, count-cat}
-use Rattle.append.specs.Cells.{endsFrom, totalOf}
-use Rattle.append.proofs.TextLaws.{total-none, total-cons, total-append, ends-append, ends-from}
+use Rattle.texts.specs.Texts.{endsFrom, totalOf}
+use Rattle.texts.proofs.TextLaws.{total-none, total-cons, total-append, ends-append, ends-from}
 use Rattle.runs.specs.Groups.{endAt, startAt, sizeAt, EndsLie, sizesBelow, endBytes}
 
 -- ---- the rows of one run

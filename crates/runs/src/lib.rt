@@ -4,7 +4,7 @@ ghost use mathlib.Core.List.{[], _∷_};
 ghost use mathlib.Core.Path.{_≡_};
 ghost use Prim.Native.Nat.{_+_, _-_, _≤_, min};
 ghost use lib.ListN.{length};
-ghost use Rattle.format.specs.Bytes.{bitIn, le};
+ghost use Rattle.format.specs.Bytes.{le};
 ghost use Rattle.format.specs.Put.{Wrote};
 ghost use Rattle.format.specs.Slots.{wordFrom, picksFrom};
 ghost use Rattle.format.specs.Verdict.{oneOf};
@@ -14,16 +14,6 @@ ghost use Rattle.runs.specs.Groups.{EndsLie, sizeAt, endBytes};
 use predicate::Selection;
 use slots::Bits;
 
-// The 64 bits from bit k on, low bit first, zeros past the end: by one load where it stays in the slice.
-fn load64(s: &[u8], k: usize) -> u64
-    ensures { λ r. ⌜ r ≡ wordFrom (bitIn (now (s .entry))) 64 k ⌝ }
-{
-    if k / 8 + 9 <= s.len() {
-        return slots::bits64_in(s, k);
-    }
-    slots::bits64(s, k)
-}
-
 // The 64 slots from i on, low bit first; past the last slot, whatever bits stand there.
 fn slots64(s: &[u8], b: Bits, i: usize) -> u64
     requires { ⌜ Lies (now s) b ⌝ }
@@ -31,9 +21,9 @@ fn slots64(s: &[u8], b: Bits, i: usize) -> u64
     ensures { λ r. ⌜ r ≡ wordFrom (bothSet (now (s .entry)) b) 64 i ⌝ }
 {
     let k = b.skip + i;
-    let x = load64(s, 8 * b.values_at + k);
+    let x = slots::load64(s, 8 * b.values_at + k);
     if b.has_validity {
-        return x & load64(s, 8 * b.validity_at + k);
+        return x & slots::load64(s, 8 * b.validity_at + k);
     }
     x
 }
@@ -63,16 +53,26 @@ fn count_words(s: &[u8], b: Bits, lo: usize, hi: usize) -> usize
     n + u64::count_ones(window(s, b, i, hi - i)) as usize
 }
 
-// How many slots of [lo, hi) are picked. Fewer than 64 slots are one word: small enough to be compiled into its callers' loops.
+// How many slots of [lo, hi) are picked, where they are at most 57 and no read can leave the slice: small enough to be compiled into
+// its callers' loops, which choose between the two.
+fn count_short(s: &[u8], b: Bits, lo: usize, hi: usize) -> usize
+    requires { ⌜ Lies (now s) b ⌝ }
+    requires { ⌜ (lo ≤ hi) × (hi - lo ≤ 57) × (lo + 64 ≤ b .len) ⌝ }
+    ensures { λ r. ⌜ r ≡ length (picksFrom (slotOf (now (s .entry)) b) (hi - lo) lo) ⌝ }
+{
+    u64::count_ones(slots::window57_in(s, b, lo, hi - lo)) as usize
+}
+
+// How many slots of [lo, hi) are picked.
 pub fn count_in(s: &[u8], b: Bits, lo: usize, hi: usize) -> usize
     requires { ⌜ Lies (now s) b ⌝ }
     requires { ⌜ (lo ≤ hi) × (hi ≤ b .len) ⌝ }
     ensures { λ r. ⌜ r ≡ length (picksFrom (slotOf (now (s .entry)) b) (hi - lo) lo) ⌝ }
 {
     let len = b.len;
-    if hi - lo < 64 {
-        if lo + 72 <= len {
-            return u64::count_ones(slots::window_in(s, b, lo, hi - lo)) as usize;
+    if hi - lo <= 57 {
+        if lo + 64 <= len {
+            return count_short(s, b, lo, hi);
         }
     }
     count_words(s, b, lo, hi)
@@ -116,9 +116,8 @@ fn clipped(end: usize, skip: usize, len: usize) -> usize
     if row < len { row } else { len }
 }
 
-// The ends of the runs with a kept row, each at the running kept count; neighbours are not merged. The n run ends stand in the journal from
-// `first` on, in width bytes each; the rows are those of the selection, counted after skip.
-pub fn filter_run_ends(
+// `filter_run_ends` run by run, whatever the selection and the width.
+fn ends_kept(
     out: &mut [u8],
     at: usize,
     journal: &[u8],
@@ -153,4 +152,173 @@ pub fn filter_run_ends(
         }
     }
     here
+}
+
+// `ends_kept` where bits say which rows are kept and a run end has 2 bytes: it is read and written as one word, with no choice in the loop
+// but that of the count.
+fn ends2(
+    out: &mut [u8],
+    at: usize,
+    journal: &[u8],
+    first: usize,
+    n: usize,
+    skip: usize,
+    s: &[u8],
+    b: Bits,
+) -> usize
+    requires { ⌜ EndsLie 2 (now journal) first n ⌝ }
+    requires { ⌜ Lies (now s) b ⌝ }
+    requires { ⌜ at + length (endBytes 2 (sizeAt 2 (now journal) first skip (picksFrom (slotOf (now s) b) (b .len) 0)) n) ≤ length (now out) ⌝ }
+    ensures { λ r. ⌜ Wrote (now (out .entry)) at (endBytes 2 (sizeAt 2 (now (journal .entry)) first skip (picksFrom (slotOf (now (s .entry)) b) (b .len) 0)) n) (now (out .exit)) r ⌝ }
+{
+    let len = b.len;
+    let mut here = at;
+    let mut kept: usize = 0;
+    let mut lo: usize = 0;
+    let mut j: usize = 0;
+    while j < n {
+        let end = words::get16(journal, first + 2 * j) as usize;
+        let hi = clipped(end, skip, len);
+        let picked = if (hi - lo <= 57) & (lo + 64 <= len) {
+            count_short(s, b, lo, hi)
+        } else {
+            count_words(s, b, lo, hi)
+        };
+        lo = hi;
+        j += 1;
+        if 0 < picked {
+            kept += picked;
+            here = words::put16(out, here, (kept % 0x1_0000) as u16);
+        }
+    }
+    here
+}
+
+// The same for run ends of 4 bytes.
+fn ends4(
+    out: &mut [u8],
+    at: usize,
+    journal: &[u8],
+    first: usize,
+    n: usize,
+    skip: usize,
+    s: &[u8],
+    b: Bits,
+) -> usize
+    requires { ⌜ EndsLie 4 (now journal) first n ⌝ }
+    requires { ⌜ Lies (now s) b ⌝ }
+    requires { ⌜ at + length (endBytes 4 (sizeAt 4 (now journal) first skip (picksFrom (slotOf (now s) b) (b .len) 0)) n) ≤ length (now out) ⌝ }
+    ensures { λ r. ⌜ Wrote (now (out .entry)) at (endBytes 4 (sizeAt 4 (now (journal .entry)) first skip (picksFrom (slotOf (now (s .entry)) b) (b .len) 0)) n) (now (out .exit)) r ⌝ }
+{
+    let len = b.len;
+    let mut here = at;
+    let mut kept: usize = 0;
+    let mut lo: usize = 0;
+    let mut j: usize = 0;
+    while j < n {
+        let end = words::get32(journal, first + 4 * j) as usize;
+        let hi = clipped(end, skip, len);
+        let picked = if (hi - lo <= 57) & (lo + 64 <= len) {
+            count_short(s, b, lo, hi)
+        } else {
+            count_words(s, b, lo, hi)
+        };
+        lo = hi;
+        j += 1;
+        if 0 < picked {
+            kept += picked;
+            here = words::put32(out, here, (kept % 0x1_0000_0000) as u32);
+        }
+    }
+    here
+}
+
+// The same for run ends of 8 bytes.
+fn ends8(
+    out: &mut [u8],
+    at: usize,
+    journal: &[u8],
+    first: usize,
+    n: usize,
+    skip: usize,
+    s: &[u8],
+    b: Bits,
+) -> usize
+    requires { ⌜ EndsLie 8 (now journal) first n ⌝ }
+    requires { ⌜ Lies (now s) b ⌝ }
+    requires { ⌜ at + length (endBytes 8 (sizeAt 8 (now journal) first skip (picksFrom (slotOf (now s) b) (b .len) 0)) n) ≤ length (now out) ⌝ }
+    ensures { λ r. ⌜ Wrote (now (out .entry)) at (endBytes 8 (sizeAt 8 (now (journal .entry)) first skip (picksFrom (slotOf (now (s .entry)) b) (b .len) 0)) n) (now (out .exit)) r ⌝ }
+{
+    let len = b.len;
+    let mut here = at;
+    let mut kept: usize = 0;
+    let mut lo: usize = 0;
+    let mut j: usize = 0;
+    while j < n {
+        let end = words::get64(journal, first + 8 * j) as usize;
+        let hi = clipped(end, skip, len);
+        let picked = if (hi - lo <= 57) & (lo + 64 <= len) {
+            count_short(s, b, lo, hi)
+        } else {
+            count_words(s, b, lo, hi)
+        };
+        lo = hi;
+        j += 1;
+        if 0 < picked {
+            kept += picked;
+            here = words::put64(out, here, kept as u64);
+        }
+    }
+    here
+}
+
+// `ends_kept` where bits say which rows are kept, by the width of a run end.
+fn ends_picked(
+    out: &mut [u8],
+    at: usize,
+    journal: &[u8],
+    first: usize,
+    width: usize,
+    n: usize,
+    skip: usize,
+    s: &[u8],
+    b: Bits,
+) -> usize
+    requires { ⌜ EndsLie width (now journal) first n ⌝ }
+    requires { ⌜ Lies (now s) b ⌝ }
+    requires { ⌜ at + length (endBytes width (sizeAt width (now journal) first skip (picksFrom (slotOf (now s) b) (b .len) 0)) n) ≤ length (now out) ⌝ }
+    ensures { λ r. ⌜ Wrote (now (out .entry)) at (endBytes width (sizeAt width (now (journal .entry)) first skip (picksFrom (slotOf (now (s .entry)) b) (b .len) 0)) n) (now (out .exit)) r ⌝ }
+{
+    match width {
+        2 => ends2(out, at, journal, first, n, skip, s, b),
+        4 => ends4(out, at, journal, first, n, skip, s, b),
+        _ => ends8(out, at, journal, first, n, skip, s, b),
+    }
+}
+
+// The ends of the runs with a kept row, each at the running kept count; neighbours are not merged. The n run ends stand in the journal from
+// `first` on, in width bytes each; the rows are those of the selection, counted after skip.
+pub fn filter_run_ends(
+    out: &mut [u8],
+    at: usize,
+    journal: &[u8],
+    first: usize,
+    width: usize,
+    n: usize,
+    skip: usize,
+    sel: Selection,
+    s: &[u8],
+    b: Bits,
+) -> usize
+    requires { ⌜ EndsLie width (now journal) first n ⌝ }
+    requires { ⌜ Sourced sel (now s) b ⌝ }
+    requires { ⌜ at + length (endBytes width (sizeAt width (now journal) first skip (picksFrom (keptBy sel (now s) b) (b .len) 0)) n) ≤ length (now out) ⌝ }
+    ensures { λ r. ⌜ Wrote (now (out .entry)) at (endBytes width (sizeAt width (now (journal .entry)) first skip (picksFrom (keptBy sel (now (s .entry)) b) (b .len) 0)) n) (now (out .exit)) r ⌝ }
+{
+    match sel {
+        Selection::Nothing => ends_kept(out, at, journal, first, width, n, skip, sel, s, b),
+        Selection::Everything(_) => ends_kept(out, at, journal, first, width, n, skip, sel, s, b),
+        Selection::Runs(_) => ends_picked(out, at, journal, first, width, n, skip, s, b),
+        Selection::Rows(_) => ends_picked(out, at, journal, first, width, n, skip, s, b),
+    }
 }

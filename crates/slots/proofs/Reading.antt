@@ -1,5 +1,5 @@
 -- A source's slots by the bits that are read, and its words. Assumes nothing.
-use Prim.Native.Nat.{ℕ, _+_, _-_, _*_, _%_, _^_, _≤_, _<_}
+use Prim.Native.Nat.{ℕ, _+_, _-_, _*_, _/_, _%_, _^_, _≤_, _<_}
 use mathlib.Core.Bool.{Bool, true, false, and-true}
 use mathlib.Core.List.{List}
 use mathlib.Core.Path.{_≡_, sym, ap, _∙_}
@@ -9,13 +9,19 @@ use lib.Bits.{bitAnd}
 use Rattle.format.specs.Bytes.{bitIn, bitAt}
 use Rattle.format.specs.Slots.{wordFrom, picksFrom}
 use Rattle.format.proofs.SlotLaws.{upTo-is, upTo-past, upTo-in, picks-upTo}
-use Rattle.format.proofs.WordLaws.{from-ext, from-shift, from-and, from-full, from-cut, from-low}
+use Rattle.format.proofs.WordLaws.{from-ext, from-shift, from-and, from-full, from-cut, from-low, from-high}
 use Rattle.slots.specs.declared.Bits.{Bits}
 use Rattle.slots.specs.Source.{bothSet, slotOf}
 
 -- the low n bits of a word are the first n slots
 pub first-slots : (p : ℕ → Bool) (w n i : ℕ) → n ≤ w → wordFrom p w i % 2 ^ n ≡ wordFrom p n i
 first-slots p w n i h = let e : w ≡ n + (w - n) = omega arith in rw e (from-low p n (w - n) i)
+
+-- what is left of a word of w slots after its first r
+pub word-rest : (p : ℕ → Bool) (w r i k x : ℕ) → r ≤ w → k ≡ i + r → x ≡ wordFrom p w i → x / 2 ^ r ≡ wordFrom p (w - r) k
+word-rest p w r i k x h e ex =
+    let s : w ≡ r + (w - r) = omega arith in
+    ap (λ (y : ℕ). y / 2 ^ r) (ex ∙ ap (λ (n : ℕ). wordFrom p n i) s) ∙ from-high p r (w - r) i ∙ ap (wordFrom p (w - r)) (sym e)
 
 -- ---- slots, and none past the last
 

@@ -1,7 +1,7 @@
 // Bit sources: packed bits with an optional validity bitmap in a lent slice of bytes, read by slot, by word and by run.
 ghost use mathlib.Core.Path.{_≡_};
 ghost use mathlib.Core.Bool.{true};
-ghost use Prim.Native.Nat.{_+_, _*_, _-_, _/_, _^_, _≤_, _<_};
+ghost use Prim.Native.Nat.{_+_, _*_, _-_, _/_, _%_, _^_, _≤_, _<_};
 ghost use lib.ListN.{length, getD};
 ghost use Rattle.format.specs.Bytes.{bitIn};
 ghost use Rattle.format.specs.Slots.{after, wordFrom, picksFrom, runsFrom, Sought};
@@ -94,6 +94,16 @@ pub fn bits64_in(s: &[u8], k: usize) -> u64
     wide(s[j]) >> r | words::get64(s, j + 1) << (8 - r)
 }
 
+// `bits64` by `bits64_in` where it stays in the slice: the test alone stands in a caller's loop, and the slow way is a call.
+pub fn load64(s: &[u8], k: usize) -> u64
+    ensures { λ r. ⌜ r ≡ wordFrom (bitIn (now (s .entry))) 64 k ⌝ }
+{
+    if k / 8 + 9 <= s.len() {
+        return bits64_in(s, k);
+    }
+    bits64(s, k)
+}
+
 // The 64 slots from i on, low bit first; past the last slot, whatever bits stand there.
 fn both64(s: &[u8], b: Bits, i: usize) -> u64
     requires { ⌜ Lies (now s) b ⌝ }
@@ -150,6 +160,37 @@ pub fn window_in(s: &[u8], b: Bits, i: usize, n: usize) -> u64
     ensures { λ r. ⌜ r ≡ wordFrom (slotOf (now (s .entry)) b) n i ⌝ }
 {
     slots64_in(s, b, i) % (1 << n)
+}
+
+// The bits from bit k on that the word at its byte has, low bit first: 57 at least, by one load with no test.
+fn bits57_in(s: &[u8], k: usize) -> u64
+    requires { ⌜ k / 8 + 8 ≤ length (now s) ⌝ }
+    ensures { λ r. ⌜ r ≡ wordFrom (bitIn (now (s .entry))) (64 - k % 8) k ⌝ }
+{
+    words::get64(s, k / 8) >> (k % 8)
+}
+
+// The slots from i on that such words have.
+fn slots57_in(s: &[u8], b: Bits, i: usize) -> u64
+    requires { ⌜ Lies (now s) b ⌝ }
+    requires { ⌜ i + 64 ≤ b .len ⌝ }
+    ensures { λ r. ⌜ r ≡ wordFrom (slotOf (now (s .entry)) b) (64 - (b .skip + i) % 8) i ⌝ }
+{
+    let k = b.skip + i;
+    let x = bits57_in(s, 8 * b.values_at + k);
+    if b.has_validity {
+        return x & bits57_in(s, 8 * b.validity_at + k);
+    }
+    x
+}
+
+// `window_in` for at most 57 slots: one load of each bitmap, not two.
+pub fn window57_in(s: &[u8], b: Bits, i: usize, n: usize) -> u64
+    requires { ⌜ Lies (now s) b ⌝ }
+    requires { ⌜ (i + 64 ≤ b .len) × (n ≤ 57) ⌝ }
+    ensures { λ r. ⌜ r ≡ wordFrom (slotOf (now (s .entry)) b) n i ⌝ }
+{
+    slots57_in(s, b, i) % (1 << n)
 }
 
 // Slots 64 w to 64 w + 63, low bit first, zero-filled past the last slot.
@@ -303,4 +344,14 @@ pub fn any_within(s: &[u8], b: Bits, lo: usize, hi: usize) -> bool
         }
     }
     any_picked(s, b, lo, hi)
+}
+
+// `any_within` where the slots are at most 57 and no read can leave the slice: small enough to be compiled into its callers' loops, which
+// choose between the two.
+pub fn any_short(s: &[u8], b: Bits, lo: usize, hi: usize) -> bool
+    requires { ⌜ Lies (now s) b ⌝ }
+    requires { ⌜ (lo ≤ hi) × (hi - lo ≤ 57) × (lo + 64 ≤ b .len) ⌝ }
+    ensures { λ r. ⌜ r ≡ anyIn (slotOf (now (s .entry)) b) lo hi ⌝ }
+{
+    window57_in(s, b, lo, hi - lo) != 0
 }

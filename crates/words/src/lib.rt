@@ -147,19 +147,6 @@ pub fn move32(out: &mut [u8], at: usize, src: &[u8], from: usize) -> usize
     move16(out, next, src, from + 16)
 }
 
-// n bytes of src to a place: long parts, and entries of no word's width.
-pub fn copy(out: &mut [u8], at: usize, src: &[u8], from: usize, n: usize) -> usize
-    requires { ⌜ (at + n ≤ length (now out)) × (from + n ≤ length (now src)) ⌝ }
-    ensures { λ r. ⌜ Wrote (now (out .entry)) at (bytesAt (now (src .entry)) from n) (now (out .exit)) r ⌝ }
-{
-    let mut i = 0;
-    while i < n {
-        out[at + i] = src[from + i];
-        i += 1;
-    }
-    at + n
-}
-
 // Between 2 and 4, 4 and 8, 8 and 16, 16 and 32, 32 and 64 bytes, by two moves that may overlap: no loop, and no byte by itself.
 fn pair2(out: &mut [u8], at: usize, src: &[u8], from: usize, n: usize) -> usize
     requires { ⌜ (2 ≤ n) × (n ≤ 4) × (at + n ≤ length (now out)) × (from + n ≤ length (now src)) ⌝ }
@@ -217,7 +204,24 @@ fn copy_few(out: &mut [u8], at: usize, src: &[u8], from: usize, n: usize) -> usi
     if 2 <= n {
         return pair2(out, at, src, from, n);
     }
-    copy(out, at, src, from, n)
+    if n == 1 {
+        return move1(out, at, src, from);
+    }
+    at
+}
+
+// 32 bytes or more, by 32 at a time: the last 32 may overlap those before them, so that no byte goes by itself.
+fn copy_long(out: &mut [u8], at: usize, src: &[u8], from: usize, n: usize) -> usize
+    requires { ⌜ (32 ≤ n) × (at + n ≤ length (now out)) × (from + n ≤ length (now src)) ⌝ }
+    ensures { λ r. ⌜ Wrote (now (out .entry)) at (bytesAt (now (src .entry)) from n) (now (out .exit)) r ⌝ }
+{
+    let k = n - 32;
+    let mut i = 0;
+    while i < k {
+        move32(out, at + i, src, from + i);
+        i += 32;
+    }
+    move32(out, at + k, src, from + k)
 }
 
 // n bytes of src to a place, as `copy` does, where n is mostly small: texts.
@@ -237,7 +241,18 @@ pub fn copy_short(out: &mut [u8], at: usize, src: &[u8], from: usize, n: usize) 
     if n <= 64 {
         return pair32(out, at, src, from, n);
     }
-    copy(out, at, src, from, n)
+    copy_long(out, at, src, from, n)
+}
+
+// n bytes of src to a place: long parts, and entries of no word's width.
+pub fn copy(out: &mut [u8], at: usize, src: &[u8], from: usize, n: usize) -> usize
+    requires { ⌜ (at + n ≤ length (now out)) × (from + n ≤ length (now src)) ⌝ }
+    ensures { λ r. ⌜ Wrote (now (out .entry)) at (bytesAt (now (src .entry)) from n) (now (out .exit)) r ⌝ }
+{
+    if 32 <= n {
+        return copy_long(out, at, src, from, n);
+    }
+    copy_short(out, at, src, from, n)
 }
 
 // An entry of any width: those of native columns and views as words.

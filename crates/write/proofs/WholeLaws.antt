@@ -15,7 +15,7 @@ use Rattle.format.proofs.Put.{then, named, same-size, wrote-front}
 use Rattle.append.specs.Cells.{padding}
 use Rattle.append.proofs.CellLaws.{padded-is}
 use Rattle.measure.proofs.Sizes.{extract-length}
-use Rattle.nodes.proofs.PutLaws.{pad-ends}
+use Rattle.buffers.proofs.PutLaws.{pad-ends}
 use Rattle.write.specs.Nodes.{NodesTo}
 
 -- an extract, said by the number of its nodes

@@ -14,7 +14,7 @@ use Rattle.bits.specs.Pack.{pushed}
 use Rattle.slots.specs.Source.{wordAt}
 use Rattle.bitmaps.specs.Push.{Packs}
 use Rattle.bitmaps.proofs.PushLaws.{packs-none, packs-more, push-room, packs-done, flush-room}
-use Rattle.bitmaps.proofs.WordWalk.{taken, fresh, taken-more, fresh-le, word-pushed, word-room, taken-all}
+use Rattle.bitmaps.proofs.WordWalk.{taken, fresh, taken-more, taken-none, fresh-le, word-pushed, word-room, taken-all}
 use Rattle.bitmaps.proofs.filter_bits_compress.Statement.{statement}
 use Rattle.bitmaps.proofs.filter_bits_compress.Tie as tie
 
@@ -35,21 +35,21 @@ is-word : (c : tie.Joined1 Inv-loop μ-loop) →
 is-word c = ⊎-elim (λ v. v .2 ∙ v .1 .ensures) (λ v. v .2 ∙ v .1 .ensures) (c .if1 .came)
 
 -- what this turn pushes
-adds : (c : tie.After-bits64 Inv-loop μ-loop) →
-    let a = c .before .before .before .before .before .before .before .args in
-    let l = c .before .before .before .loop in
-    pushed (l .to .packer) (c .bits64 .result) (c .before .if1 .x) ≡ spare (taken (a .values .now) (a .from) (a .s .now) (a .mask) (64 * l .w)) ++ fresh (a .values .now) (a .from) (a .s .now) (a .mask) (l .w)
+adds : (c : tie.After-load64 Inv-loop μ-loop) →
+    let a = c .before .before .before .before .before .before .before .before .args in
+    let l = c .before .before .before .before .loop in
+    pushed (l .to .packer) (c .load64 .result) (c .before .before .if1 .x) ≡ spare (taken (a .values .now) (a .from) (a .s .now) (a .mask) (64 * l .w)) ++ fresh (a .values .now) (a .from) (a .s .now) (a .mask) (l .w)
 adds c =
-    let a = c .before .before .before .before .before .before .before .args in
-    let l = c .before .before .before .loop in
-    rw (← l .inv .1 .waits) (word-pushed (a .values .now) (a .from) (a .s .now) (a .mask) (l .to .packer) (l .w) _ _ (c .bits64 .ensures) (is-word (c .before)))
+    let a = c .before .before .before .before .before .before .before .before .args in
+    let l = c .before .before .before .before .loop in
+    rw (← l .inv .1 .waits) (word-pushed (a .values .now) (a .from) (a .s .now) (a .mask) (l .to .packer) (l .w) _ _ (c .load64 .ensures) (is-word (c .before .before)))
 
 push-requires : tie.Need-push-requires Inv-loop μ-loop
 unfolding taken
 push-requires c κs =
-    let a = c .before .before .before .before .before .before .before .before .args in
-    let pre = c .before .before .before .before .before .before .before .before .pre in
-    let l = c .before .before .before .before .loop in (
+    let a = c .before .before .before .before .before .before .before .before .before .args in
+    let pre = c .before .before .before .before .before .before .before .before .before .pre in
+    let l = c .before .before .before .before .before .loop in (
       l .inv .1 .packed,
       push-room (l .inv .1) _ (fresh (a .values .now) (a .from) (a .s .now) (a .mask) (l .w)) (adds (c .before)) (fresh-le (a .values .now) (a .from) (a .s .now) (a .mask) (l .w))
           (word-room (a .values .now) (a .from) (a .s .now) (a .mask) (a .at) (l .w) _ (pre .1 .1)),
@@ -57,13 +57,20 @@ push-requires c κs =
 
 loop-again : tie.Need-loop-again Inv-loop μ-loop
 loop-again c =
-    let a = c .before .before .before .before .before .before .before .before .before .before .before .args in
-    let l = c .before .before .before .before .before .before .before .loop in
+    let a = c .before .before .before .before .before .before .before .before .before .before .before .before .args in
+    let l = c .before .before .before .before .before .before .before .before .loop in
     let m = fresh (a .values .now) (a .from) (a .s .now) (a .mask) (l .w) in (
       omega arith,
       rw (taken-more (a .values .now) (a .from) (a .s .now) (a .mask) (l .w) (l .w + 1) refl)
           (packs-more (l .inv .1) m (adds (c .before .before .before .before)) (fresh-le (a .values .now) (a .from) (a .s .now) (a .mask) (l .w)) (c .before .before .push .ensures)),
     )
+
+-- an empty word adds nothing
+loop-again-2 : tie.Need-loop-again-2 Inv-loop μ-loop
+loop-again-2 c =
+    let a = c .before .before .before .before .before .before .before .args in
+    let l = c .before .before .before .loop in
+    (omega arith, rw (taken-none (a .values .now) (a .from) (a .s .now) (a .mask) (l .w) (l .w + 1) _ (is-word (c .before)) (c .if2 .left) refl) (l .inv .1))
 
 -- the last word is passed: all bits are packed
 packs-all : (c : tie.After-loop Inv-loop μ-loop) →
@@ -97,11 +104,13 @@ filter-bits-compress-spec =
     (λ c κs. search needs)
     (λ c. omega arith)
     (λ c. omega arith)
-    (λ c κs. search needs)
     (λ c. omega arith)
+    (λ c κs. search needs)
     push-requires
     (λ c. omega arith)
     loop-again
+    (λ c. omega arith)
+    loop-again-2
     flush-requires
     (λ c. same-size (returns c))
     returns)

@@ -30,7 +30,7 @@ push-requires c κs =
     let a = b .args in
     let l = c .before .before .before .before .loop in
     let row = getD (a .list .now) (l .k) 0 in
-    let vs = run-pushed (a .values .now) (a .from) (l .to .packer) row _ 1 1 (c .before .bits64 .ensures) refl (omega arith) in
+    let vs = run-pushed (a .values .now) (a .from) (l .to .packer) row _ 1 1 (c .before .load64 .ensures) refl (omega arith) in
     let done = listed-size (a .values .now) (a .from) (a .list .now) (a .i) (l .k - a .i) (omega arith) in
     let size = run-size (a .values .now) (a .from) 1 row in (
       l .inv .2 .packed,
@@ -44,7 +44,7 @@ loop-again c =
     let a = b .args in
     let l = c .before .before .before .before .before .before .before .loop in
     let row = getD (a .list .now) (l .k) 0 in
-    let vs = run-pushed (a .values .now) (a .from) (l .to .packer) row _ 1 1 (c .before .before .before .before .bits64 .ensures) refl (omega arith) in
+    let vs = run-pushed (a .values .now) (a .from) (l .to .packer) row _ 1 1 (c .before .before .before .before .load64 .ensures) refl (omega arith) in
     let size = run-size (a .values .now) (a .from) 1 row in (
       omega arith,
       omega arith,

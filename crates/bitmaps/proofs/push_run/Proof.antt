@@ -30,7 +30,7 @@ push-requires c κs =
     let a = b .args in
     let l = c .before .before .before .before .before .loop in
     let n = c .before .before .before .up-to-64 .result in
-    let vs = run-pushed (a .values .now) (a .from) (l .to .packer) (l .i) _ _ n (c .before .before .bits64 .ensures) (c .before .low-ones .ensures) (omega arith) in
+    let vs = run-pushed (a .values .now) (a .from) (l .to .packer) (l .i) _ _ n (c .before .before .load64 .ensures) (c .before .low-ones .ensures) (omega arith) in
     let done = run-size (a .values .now) (a .from) (l .i - a .a) (a .a) in
     let size = run-size (a .values .now) (a .from) n (l .i) in (
       l .inv .2 .packed,
@@ -44,7 +44,7 @@ loop-again c =
     let a = b .args in
     let l = c .before .before .before .before .before .before .before .before .loop in
     let n = c .before .before .before .before .before .before .up-to-64 .result in
-    let vs = run-pushed (a .values .now) (a .from) (l .to .packer) (l .i) _ _ n (c .before .before .before .before .before .bits64 .ensures) (c .before .before .before .before .low-ones .ensures) (omega arith) in
+    let vs = run-pushed (a .values .now) (a .from) (l .to .packer) (l .i) _ _ n (c .before .before .before .before .before .load64 .ensures) (c .before .before .before .before .low-ones .ensures) (omega arith) in
     let size = run-size (a .values .now) (a .from) n (l .i) in (
       omega arith,
       omega arith,

@@ -15,7 +15,7 @@ push-requires : tie.Need-push-requires
 push-requires c κs =
     let b = c .before .before .before .before in
     let a = b .args in
-    let vs = set-pushed (a .values .now) (a .from) (a .to .packer) (a .base) _ (a .word) (c .before .bits64 .ensures) in
+    let vs = set-pushed (a .values .now) (a .from) (a .to .packer) (a .base) _ (a .word) (c .before .load64 .ensures) in
     let size = length-map (setRows (a .base) (a .word)) (bitFrom (a .values .now) (a .from)) in (
       b .pre .0,
       push-fits (a .to) _ _ (map (bitFrom (a .values .now) (a .from)) (setRows (a .base) (a .word))) (b .pre .0) vs (rw size (set-size (a .base) (a .word)))
@@ -26,7 +26,7 @@ returns : tie.Need-returns
 returns c =
     let b = c .before .before .before .before .before .before .before in
     let a = b .args in
-    let vs = set-pushed (a .values .now) (a .from) (a .to .packer) (a .base) _ (a .word) (c .before .before .before .before .bits64 .ensures) in
+    let vs = set-pushed (a .values .now) (a .from) (a .to .packer) (a .base) _ (a .word) (c .before .before .before .before .load64 .ensures) in
     let size = length-map (setRows (a .base) (a .word)) (bitFrom (a .values .now) (a .from)) in
     adds-push (b .pre .0) vs (rw size (set-size (a .base) (a .word))) (c .before .before .push .ensures)
 

@@ -1,6 +1,6 @@
 -- `body::put_buffers` meets its contract: three buffers, one after the other. Assumes nothing.
 use borrow.Author.Needs.{needs}
-use Rattle.nodes.specs.Place.{rowsBy}
+use Rattle.buffers.specs.Place.{rowsBy}
 use Rattle.body.proofs.AddLaws.{puts-order, bitmap-room, first-room, second-room, added}
 use Rattle.body.proofs.put_buffers.Statement.{statement}
 use Rattle.body.proofs.put_buffers.Tie as tie

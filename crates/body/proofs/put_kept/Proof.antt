@@ -6,7 +6,7 @@ use Rattle.format.specs.Kept.{keptNode}
 use Rattle.format.specs.Verdict.{packLimit}
 use Rattle.nodes.specs.Body.{nodeBody}
 use borrow.Author.Needs.{needs}
-use Rattle.nodes.specs.Place.{rowsBy}
+use Rattle.buffers.specs.Place.{rowsBy}
 use Rattle.body.proofs.KeptLaws.{picked-of, kinded-of, count-few, validity-fits, first-fits, second-fits, data-fits, written-of}
 use Rattle.body.proofs.put_kept.Statement.{statement}
 use Rattle.body.proofs.put_kept.Tie as tie

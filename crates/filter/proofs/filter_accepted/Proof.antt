@@ -3,7 +3,7 @@ use mathlib.Core.Path.{_≡_, ap}
 use borrow.Author.Needs.{needs}
 use Rattle.format.specs.Node.{rows}
 use Rattle.pack.specs.declared.Node.{Node}
-use Rattle.predicate.proofs.Slips.{few-slots, few-kept}
+use Rattle.prepare.proofs.Slips.{few-slots, few-kept}
 use Rattle.filter.proofs.Ways.{long-mask, not-long, short-list, to-list}
 use Rattle.filter.proofs.filter_accepted.Statement.{statement}
 use Rattle.filter.proofs.filter_accepted.Tie as tie

@@ -3,7 +3,7 @@ use mathlib.Core.Path.{sym, _∙_}
 use native.Mathlib.Omega.{arith}
 use borrow.Author.Needs.{needs}
 use Rattle.slots.proofs.Masked.{mask-lies, mask-count}
-use Rattle.predicate.specs.Prepare.{Counted}
+use Rattle.prepare.specs.Prepare.{Counted}
 use Rattle.filter.proofs.Ways.{right-unstated, restated, miscounted, journal-bad}
 use Rattle.filter.proofs.filter_masked.Statement.{statement}
 use Rattle.filter.proofs.filter_masked.Tie as tie

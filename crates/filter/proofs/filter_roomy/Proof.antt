@@ -4,45 +4,40 @@ use mathlib.Core.Path.{sym, ap, _∙_}
 use borrow.Author.Needs.{needs}
 use lib.ListN.{replicate}
 use lib.Seq.{length-take-le}
-use Rattle.filter.proofs.Selecting.{selects}
-use Rattle.filter.proofs.Ways.{bits-lie, short-bits, routed, size-fits, size-few, done}
+use Rattle.filter.proofs.Ways.{short-bits, kept-picks, routed, size-fits, size-few, done}
 use Rattle.filter.proofs.filter_roomy.Statement.{statement}
 use Rattle.filter.proofs.filter_roomy.Tie as tie
 
-select-requires : tie.Need-select-requires
-select-requires c κs = routed (c .before .before .before .before .before .before .pre)
+slice-aggregate-select-and-write : tie.Need-slice-aggregate-select-and-write
+slice-aggregate-select-and-write c = sym (length-take-le _ _ (c .before .before .before .before .before .before .before .pre .fills))
 
-slice-aggregate-fill-and-write : tie.Need-slice-aggregate-fill-and-write
-slice-aggregate-fill-and-write c = sym (length-take-le _ _ (c .before .before .before .before .before .before .before .before .before .before .before .pre .fills))
+slice-relend-prefix-select-and-write-2 : tie.Need-slice-relend-prefix-select-and-write-2
+slice-relend-prefix-select-and-write-2 c = size-fits (c .before .before .before .before .before .before .before .pre)
 
-slice-relend-prefix-fill-and-write-2 : tie.Need-slice-relend-prefix-fill-and-write-2
-slice-relend-prefix-fill-and-write-2 c = size-fits (c .before .before .before .before .before .before .before .before .before .before .before .pre)
+slice-aggregate-select-and-write-2 : tie.Need-slice-aggregate-select-and-write-2
+slice-aggregate-select-and-write-2 c = sym (length-take-le _ _ (size-fits (c .before .before .before .before .before .before .before .before .pre)))
 
-slice-aggregate-fill-and-write-2 : tie.Need-slice-aggregate-fill-and-write-2
-slice-aggregate-fill-and-write-2 c = sym (length-take-le _ _ (size-fits (c .before .before .before .before .before .before .before .before .before .before .before .before .pre)))
-
-fill-and-write-requires : tie.Need-fill-and-write-requires
-fill-and-write-requires c κs =
-    let p = c .before .before .before .before .before .before .before .before .before .before .before .before .pre in
+select-and-write-requires : tie.Need-select-and-write-requires
+select-and-write-requires c κs =
+    let p = c .before .before .before .before .before .before .before .before .pre in
     let l = p .listed in
-    ((bits-lie l, selects (c .before .before .before .before .before .select .ensures) (short-bits l)), (p .ready, (length-take-le _ _ (p .fills) ∙ p .needs, length-take-le _ _ (size-fits p) ∙ p .sizes, rw (length-take-le _ _ (size-fits p)) (size-few p))))
+    ((routed p, short-bits l, kept-picks l), (p .ready, (length-take-le _ _ (p .fills) ∙ p .needs, length-take-le _ _ (size-fits p) ∙ p .sizes, rw (length-take-le _ _ (size-fits p)) (size-few p))))
 
 returns : tie.Need-returns
 returns c =
-    let p = c .before .before .before .before .before .before .before .before .before .before .before .before .before .before .before .before .before .pre in
-    let w = c .before .before .before .before .fill-and-write .ensures in
-    done p (w .0) (c .before .before .before .before .before .before .before .before .before .before .select .ensures .listed) (w .1 ∙ ap (λ (n : ℕ). replicate n 0) (length-take-le _ _ (p .fills)))
+    let p = c .before .before .before .before .before .before .before .before .before .before .before .before .before .before .before .pre in
+    let w = c .before .before .before .before .before .before .select-and-write .ensures in
+    done p (w .0) (w .2) (w .1 ∙ ap (λ (n : ℕ). replicate n 0) (length-take-le _ _ (p .fills)))
 
 pub filter-roomy-spec : {M : Type 1} → statement M
 filter-roomy-spec =
     tie.close
     (tie.spec
-    select-requires
     (λ c. search needs)
-    slice-aggregate-fill-and-write
-    slice-relend-prefix-fill-and-write-2
-    slice-aggregate-fill-and-write-2
-    fill-and-write-requires
+    slice-aggregate-select-and-write
+    slice-relend-prefix-select-and-write-2
+    slice-aggregate-select-and-write-2
+    select-and-write-requires
     (λ c. search needs)
     (λ c. search needs)
     (λ c. search needs)

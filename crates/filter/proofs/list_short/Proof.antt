@@ -4,7 +4,7 @@ use mathlib.Core.Path.{_≡_, ap, _∙_}
 use native.Mathlib.Omega.{arith}
 use borrow.Author.Tests.{not-true, not-false}
 use lib.ListN.{length}
-use Rattle.predicate.proofs.Slips.{kept-is, lies, few-slots, entries-are}
+use Rattle.prepare.proofs.Slips.{kept-is, lies, few-slots, entries-are}
 use Rattle.filter.proofs.list_short.Statement.{statement}
 use Rattle.filter.proofs.list_short.Tie as tie
 

@@ -1,8 +1,9 @@
 -- `nodes::filter_first` meets its contract: each kind has its form of buffer. Assumes nothing.
 use mathlib.Core.Path.{refl, sym, _∙_}
 use borrow.Author.Needs.{needs}
-use Rattle.nodes.specs.Place.{rowsBy, ofViews, ofLists32, ofLists64, ofUnion}
-use Rattle.nodes.proofs.PutLaws.{puts-none}
+use Rattle.buffers.specs.Place.{rowsBy}
+use Rattle.nodes.specs.Place.{ofViews, ofLists32, ofLists64, ofUnion}
+use Rattle.buffers.proofs.PutLaws.{puts-none}
 use Rattle.nodes.proofs.BufferLaws.{copies-native, copies-fixed, copies-dictionary, first-struct, first-unknown}
 use Rattle.nodes.proofs.filter_first.Statement.{statement}
 use Rattle.nodes.proofs.filter_first.Tie as tie

@@ -9,8 +9,9 @@ use Rattle.format.specs.Node.{places, valid}
 use Rattle.format.proofs.Put.{same-size}
 use Rattle.format.specs.Write.{holds, bitmap}
 use Rattle.bitmaps.specs.Push.{bitFrom}
-use Rattle.nodes.specs.Place.{rowsBy}
-use Rattle.nodes.proofs.PutLaws.{puts-none, puts-bytes, pad-room, bytes-room, null-bitmap, from-is, bitmap-none}
+use Rattle.buffers.specs.Place.{rowsBy}
+use Rattle.buffers.proofs.PutLaws.{puts-none, puts-bytes, pad-room, bytes-room}
+use Rattle.nodes.proofs.NullLaws.{null-bitmap, from-is, bitmap-none}
 use Rattle.nodes.proofs.filter_nulls.Statement.{statement}
 use Rattle.nodes.proofs.filter_nulls.Tie as tie
 

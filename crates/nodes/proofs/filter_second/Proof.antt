@@ -1,8 +1,9 @@
 -- `nodes::filter_second` meets its contract: data, sizes, or nothing. Assumes nothing.
 use mathlib.Core.Path.{refl, sym, _∙_}
 use borrow.Author.Needs.{needs}
-use Rattle.nodes.specs.Place.{rowsBy, sizes32, sizes64}
-use Rattle.nodes.proofs.PutLaws.{puts-none}
+use Rattle.buffers.specs.Place.{rowsBy}
+use Rattle.nodes.specs.Place.{sizes32, sizes64}
+use Rattle.buffers.proofs.PutLaws.{puts-none}
 use Rattle.nodes.proofs.BufferLaws.{second-absent, bits, numeric, fixed, views, runs, struct, union, dictionary, unknown}
 use Rattle.nodes.proofs.filter_second.Statement.{statement}
 use Rattle.nodes.proofs.filter_second.Tie as tie

@@ -2,7 +2,7 @@
 use Prim.Native.Nat.{_+_, _*_}
 use mathlib.Core.Path.{refl}
 use borrow.Author.Needs.{needs}
-use Rattle.nodes.specs.Place.{rowsBy}
+use Rattle.buffers.specs.Place.{rowsBy}
 use Rattle.nodes.proofs.BufferLaws.{bits-small, first-bits-are}
 use Rattle.nodes.proofs.first_bits.Statement.{statement}
 use Rattle.nodes.proofs.first_bits.Tie as tie

@@ -1,7 +1,7 @@
 -- `nodes::first_entries` meets its contract: the entries from row 0 on. Assumes nothing.
 use borrow.Author.Needs.{needs}
 use Rattle.predicate.proofs.Holding.{sourced-readable}
-use Rattle.nodes.specs.Place.{rowsBy}
+use Rattle.buffers.specs.Place.{rowsBy}
 use Rattle.nodes.proofs.BufferLaws.{first-copies, width-copies, narrow, entries-lie, place-is}
 use Rattle.nodes.proofs.first_entries.Statement.{statement}
 use Rattle.nodes.proofs.first_entries.Tie as tie

@@ -1,7 +1,7 @@
 -- `nodes::first_offsets32` meets its contract: the rows lie in the journal. Assumes nothing.
 use borrow.Author.Needs.{needs}
 use Rattle.predicate.proofs.Holding.{sourced-readable}
-use Rattle.nodes.specs.Place.{rowsBy}
+use Rattle.buffers.specs.Place.{rowsBy}
 use Rattle.nodes.proofs.BufferLaws.{cells-32, first-texts-are, texts-lie, place-is}
 use Rattle.nodes.proofs.first_offsets32.Statement.{statement}
 use Rattle.nodes.proofs.first_offsets32.Tie as tie

@@ -1,6 +1,6 @@
 -- `nodes::first_runs` meets its contract: the run ends lie in the journal and rise. Assumes nothing.
 use borrow.Author.Needs.{needs}
-use Rattle.nodes.specs.Place.{rowsBy}
+use Rattle.buffers.specs.Place.{rowsBy}
 use Rattle.nodes.proofs.BufferLaws.{first-runs-by, runs-lie-by}
 use Rattle.nodes.proofs.first_runs.Statement.{statement}
 use Rattle.nodes.proofs.first_runs.Tie as tie

@@ -1,7 +1,7 @@
 -- `nodes::second_sizes` meets its contract: the sizes from row 0 on. Assumes nothing.
 use borrow.Author.Needs.{needs}
 use Rattle.predicate.proofs.Holding.{sourced-readable}
-use Rattle.nodes.specs.Place.{rowsBy}
+use Rattle.buffers.specs.Place.{rowsBy}
 use Rattle.nodes.proofs.BufferLaws.{second-sizes-are, width-sizes, sizes-lie, size-place-is}
 use Rattle.nodes.proofs.second_sizes.Statement.{statement}
 use Rattle.nodes.proofs.second_sizes.Tie as tie

@@ -1,7 +1,7 @@
 -- `nodes::second_texts64` meets its contract: the rows lie in the journal. Assumes nothing.
 use borrow.Author.Needs.{needs}
 use Rattle.predicate.proofs.Holding.{sourced-readable}
-use Rattle.nodes.specs.Place.{rowsBy}
+use Rattle.buffers.specs.Place.{rowsBy}
 use Rattle.nodes.proofs.BufferLaws.{cells-64, second-texts-are, texts-lie, place-is, second-is}
 use Rattle.nodes.proofs.second_texts64.Statement.{statement}
 use Rattle.nodes.proofs.second_texts64.Tie as tie

@@ -21,11 +21,11 @@ in-word : (c : tie.After-shared-slice-known) → trailingZeros 64 (c .before .ar
 in-word c = let h = first c .inside in omega arith
 
 returns : tie.Need-returns
-returns c = (omega arith, found-word (c .before .before .before .pre .1 .1) (slot-past _ _) (omega arith) refl)
+returns c = (omega arith, found-word (c .before .before .before .before .pre .1 .1) (slot-past _ _) (omega arith) refl)
 
 returns-2 : tie.Need-returns-2
 returns-2 c =
-    let k = c .before .before .before .before in
+    let k = c .before .before .before .before .before in
     let f = c .run-end .ensures in
     let low = f .low in
     let near = in-word k in
@@ -33,14 +33,14 @@ returns-2 c =
 
 -- so does the first row after it that is not kept
 end-in : (c : tie.Else2) →
-    let x = c .before .before .before .before .args .x in
+    let x = c .before .before .before .before .before .args .x in
     trailingZeros 64 ((0xFFFF_FFFF_FFFF_FFFF - x) / 2 ^ trailingZeros 64 x * 2 ^ trailingZeros 64 x % 2 ^ 64) < 64
-end-in c = end-near (c .before .before .before .before .pre .1 .1) refl (c .if2 .left)
+end-in c = end-near (c .before .before .before .before .before .pre .1 .1) refl (c .if2 .left)
 
 returns-3 : tie.Need-returns-3
 returns-3 c =
-    let f = c .before .before .before .before .pre .1 .1 in
-    let fits = c .before .before .before .before .pre .1 .0 in
+    let f = c .before .before .before .before .before .pre .1 .1 in
+    let fits = c .before .before .before .before .before .pre .1 .0 in
     let near = end-in c in
     let after = end-after f refl (c .if2 .left) in
     (omega arith, omega arith, found-run f refl (c .if2 .left) (omega arith) refl)
@@ -55,9 +55,10 @@ word-block-spec =
     (λ c. in-word c)
     (λ c. in-word c)
     (λ c κs. search needs)
+    (λ c κs. search needs)
     (λ c. search needs)
     returns
-    (λ c. omega (arith, in-word (c .before .before)))
+    (λ c. omega (arith, in-word (c .before .before .before)))
     (λ c. search needs)
     (λ c κs. search needs)
     returns-2

@@ -1,14 +1,7 @@
--- `runs::count_in` meets its contract: the ones of one word, or word by word. Assumes nothing.
-use Prim.Native.Nat.{_≤_}
-use native.Mathlib.Omega.{arith}
+-- `runs::count_in` meets its contract: by one word, or word by word. Assumes nothing.
 use borrow.Author.Needs.{needs}
-use lib.Count.{ones}
-use Rattle.runs.proofs.CountLaws.{ones-picks, ones-few}
 use Rattle.runs.proofs.count_in.Statement.{statement}
 use Rattle.runs.proofs.count_in.Tie as tie
-
-returns : tie.Need-returns
-returns c = ones-picks _ _ _ _ (c .window-in .ensures)
 
 pub count-in-spec : {M : Type 1} → statement M
 count-in-spec =
@@ -16,9 +9,7 @@ count-in-spec =
     (tie.spec
     (λ c. search needs)
     (λ c. search needs)
-    (λ c. search needs)
     (λ c κs. search needs)
-    (λ c. omega (arith, ones-few _ _ _ _ (c .window-in .ensures)))
-    returns
+    (λ c. search needs)
     (λ c κs. search needs)
     (λ c. search needs))

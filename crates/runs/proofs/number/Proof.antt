@@ -1,22 +1,12 @@
 -- `runs::number` meets its contract: each arm is its width. Assumes nothing.
-use mathlib.Core.Bool.{true, or-false}
-use mathlib.Core.List.{[], _∷_}
-use mathlib.Core.Path.{_≡_, sym, _∙_}
-use Prim.Native.Nat.{ℕ}
+use mathlib.Core.Path.{_∙_}
 use borrow.Author.Needs.{needs}
-use borrow.Author.Tests.{eqb-true, ne-eqb}
-use lib.Dec.{eqb}
-use Rattle.format.specs.Verdict.{oneOf}
+use Rattle.format.proofs.Accepted.{wide-last}
 use Rattle.runs.proofs.number.Statement.{statement}
 use Rattle.runs.proofs.number.Tie as tie
 
--- neither 2 nor 4
-is-8 : (w : ℕ) → oneOf (2 ∷ 4 ∷ 8 ∷ []) w ≡ true → (w ≡ 2 → ⊥) → (w ≡ 4 → ⊥) → w ≡ 8
-unfolding oneOf
-is-8 w e h k = eqb-true w 8 (sym (or-false (eqb w 8)) ∙ rw (ne-eqb w 2 h, ne-eqb w 4 k) at e)
-
 get64-requires : tie.Need-get64-requires
-get64-requires c κs = let s = c .before .before in rw (is-8 _ (s .pre .0) (c .match .rest .0 .1) (c .match .rest .1)) at (s .pre .1)
+get64-requires c κs = let s = c .before .before in rw (wide-last _ (s .pre .0) (c .match .rest .0 .1) (c .match .rest .1)) at (s .pre .1)
 
 returns : tie.Need-returns
 returns c = c .get16 .ensures .0 ∙ rw (c .before .match .keys1)
@@ -25,7 +15,7 @@ returns-2 : tie.Need-returns-2
 returns-2 c = c .get32 .ensures .0 ∙ rw (c .before .match .keys2)
 
 returns-3 : tie.Need-returns-3
-returns-3 c = let s = c .before .before .before in c .get64 .ensures .0 ∙ rw (is-8 _ (s .pre .0) (c .before .match .rest .0 .1) (c .before .match .rest .1))
+returns-3 c = let s = c .before .before .before in c .get64 .ensures .0 ∙ rw (wide-last _ (s .pre .0) (c .before .match .rest .0 .1) (c .before .match .rest .1))
 
 pub number-spec : {M : Type 1} → statement M
 number-spec =

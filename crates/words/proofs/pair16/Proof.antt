@@ -12,7 +12,7 @@ use Rattle.words.proofs.pair16.Tie as tie
 returns : tie.Need-returns
 returns c =
     let a = c .before .before .before .before .before .before .before .before .before .before .args in
-    named (overlap (a .src .now) (a .from) 16 (a .n - 16) (omega arith) (omega arith) (c .before .before .before .before .before .before .move16 .ensures) (c .before .before .move162 .ensures)) (ap (bytesAt _ _) (omega arith))
+    named (overlap (a .src .now) (a .from) 16 (a .n - 16) 16 (omega arith) (omega arith) (omega arith) (c .before .before .before .before .before .before .move16 .ensures) (c .before .before .move162 .ensures)) (ap (bytesAt _ _) (omega arith))
 
 pub pair16-spec : {M : Type 1} → statement M
 pair16-spec =

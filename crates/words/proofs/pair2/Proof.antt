@@ -12,7 +12,7 @@ use Rattle.words.proofs.pair2.Tie as tie
 returns : tie.Need-returns
 returns c =
     let a = c .before .before .before .before .before .before .before .before .before .before .args in
-    named (overlap (a .src .now) (a .from) 2 (a .n - 2) (omega arith) (omega arith) (c .before .before .before .before .before .before .move2 .ensures) (c .before .before .move22 .ensures)) (ap (bytesAt _ _) (omega arith))
+    named (overlap (a .src .now) (a .from) 2 (a .n - 2) 2 (omega arith) (omega arith) (omega arith) (c .before .before .before .before .before .before .move2 .ensures) (c .before .before .move22 .ensures)) (ap (bytesAt _ _) (omega arith))
 
 pub pair2-spec : {M : Type 1} → statement M
 pair2-spec =

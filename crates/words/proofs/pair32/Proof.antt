@@ -12,7 +12,7 @@ use Rattle.words.proofs.pair32.Tie as tie
 returns : tie.Need-returns
 returns c =
     let a = c .before .before .before .before .before .before .before .before .before .before .args in
-    named (overlap (a .src .now) (a .from) 32 (a .n - 32) (omega arith) (omega arith) (c .before .before .before .before .before .before .move32 .ensures) (c .before .before .move322 .ensures)) (ap (bytesAt _ _) (omega arith))
+    named (overlap (a .src .now) (a .from) 32 (a .n - 32) 32 (omega arith) (omega arith) (omega arith) (c .before .before .before .before .before .before .move32 .ensures) (c .before .before .move322 .ensures)) (ap (bytesAt _ _) (omega arith))
 
 pub pair32-spec : {M : Type 1} → statement M
 pair32-spec =

@@ -12,7 +12,7 @@ use Rattle.words.proofs.pair4.Tie as tie
 returns : tie.Need-returns
 returns c =
     let a = c .before .before .before .before .before .before .before .before .before .before .args in
-    named (overlap (a .src .now) (a .from) 4 (a .n - 4) (omega arith) (omega arith) (c .before .before .before .before .before .before .move4 .ensures) (c .before .before .move42 .ensures)) (ap (bytesAt _ _) (omega arith))
+    named (overlap (a .src .now) (a .from) 4 (a .n - 4) 4 (omega arith) (omega arith) (omega arith) (c .before .before .before .before .before .before .move4 .ensures) (c .before .before .move42 .ensures)) (ap (bytesAt _ _) (omega arith))
 
 pub pair4-spec : {M : Type 1} → statement M
 pair4-spec =

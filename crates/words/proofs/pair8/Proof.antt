@@ -12,7 +12,7 @@ use Rattle.words.proofs.pair8.Tie as tie
 returns : tie.Need-returns
 returns c =
     let a = c .before .before .before .before .before .before .before .before .before .before .args in
-    named (overlap (a .src .now) (a .from) 8 (a .n - 8) (omega arith) (omega arith) (c .before .before .before .before .before .before .move8 .ensures) (c .before .before .move82 .ensures)) (ap (bytesAt _ _) (omega arith))
+    named (overlap (a .src .now) (a .from) 8 (a .n - 8) 8 (omega arith) (omega arith) (omega arith) (c .before .before .before .before .before .before .move8 .ensures) (c .before .before .move82 .ensures)) (ap (bytesAt _ _) (omega arith))
 
 pub pair8-spec : {M : Type 1} → statement M
 pair8-spec =

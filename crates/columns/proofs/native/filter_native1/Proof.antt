@@ -1,10 +1,12 @@
 -- `columns::native::filter_native1` meets its contract. What is left to write are the entries of the rows from the cursor's place on; each arm writes a block's. Assumes nothing.
 use Prim.Native.Nat.{_-_}
+use native.Mathlib.Omega.{arith}
 use borrow.Author.Needs.{needs}
 use Rattle.predicate.specs.Selection.{keptBy}
 use Rattle.predicate.proofs.Steps.{falls}
 use Rattle.append.specs.Cells.{entriesOf}
 use Rattle.columns.proofs.Walk.{Walked, walk-none, walk-more, walk-done, walk-same}
+use Rattle.columns.proofs.Passing.{walk-fits, walk-on}
 use Rattle.columns.proofs.EntryWalk.{entries-cut, run-needs, word-needs, list-needs}
 use Rattle.columns.proofs.native.filter_native1.Statement.{statement}
 use Rattle.columns.proofs.native.filter_native1.Tie as tie
@@ -43,17 +45,30 @@ gather-word1-requires c κs =
     let h = t .before .before .before .before .before .before .pre .1 .1 in
     word-needs (t .before .loop .inv) (h .0) (h .1) (rw (c .before .before .base .given .1) at (t .next-block .ensures))
 
+pass-words1-requires : tie.Need-pass-words1-requires Inv-loop μ-loop
+pass-words1-requires c κs =
+    let k = c .before in
+    let t = k .before .before .before .before .before .before .before in
+    let h = t .before .before .before .before .before .before .pre in
+    let g = rw (k .before .before .before .before .before .base .given .1) at (t .next-block .ensures) in
+    let w = walk-more (t .before .loop .inv) (entries-cut _ _ _) (g .1) (k .before .before .gather-word1 .ensures) in
+    (h .0, (w .step, (h .1 .1 .0, walk-fits (entries-cut _ _ _) w (h .1 .1 .1))))
+
 loop-less-2 : tie.Need-loop-less-2 Inv-loop μ-loop
 loop-less-2 c =
-    let t = c .before .before .before .before .before .before .before in
-    let g = rw (c .before .before .before .before .before .base .given .1) at (t .next-block .ensures) in
-    falls (g .1)
+    let k = c .before .before .before .before .before in
+    let t = k .before .before .before .before .before .before .before in
+    let g = rw (k .before .before .before .before .before .base .given .1) at (t .next-block .ensures) in
+    let q = c .before .before .before .pass-words1 .ensures in
+    omega (arith, falls (g .1), q .on, q .step .inside)
 
 loop-again-2 : tie.Need-loop-again-2 Inv-loop μ-loop
 loop-again-2 c =
-    let t = c .before .before .before .before .before .before .before in
-    let g = rw (c .before .before .before .before .before .base .given .1) at (t .next-block .ensures) in
-    walk-more (t .before .loop .inv) (entries-cut _ _ _) (g .1) (c .before .before .gather-word1 .ensures)
+    let k = c .before .before .before .before .before in
+    let t = k .before .before .before .before .before .before .before in
+    let g = rw (k .before .before .before .before .before .base .given .1) at (t .next-block .ensures) in
+    let w = walk-more (t .before .loop .inv) (entries-cut _ _ _) (g .1) (k .before .before .gather-word1 .ensures) in
+    walk-on (entries-cut _ _ _) w (c .before .before .before .pass-words1 .ensures)
 
 gather-list1-requires : tie.Need-gather-list1-requires Inv-loop μ-loop
 gather-list1-requires c κs =
@@ -91,6 +106,7 @@ filter-native1-spec =
     loop-again
     (λ c. search needs)
     gather-word1-requires
+    pass-words1-requires
     loop-less-2
     loop-again-2
     (λ c. search needs)

@@ -2,14 +2,17 @@
 use native.Mathlib.Omega.{arith}
 use borrow.Author.Needs.{needs}
 use Prim.Native.Nat.{_≤_, _+_, _-_, _*_}
-use mathlib.Core.Path.{_≡_}
+use mathlib.Core.Logic.{⊎-elim}
+use mathlib.Core.Path.{_≡_, sym, _∙_}
+use native.Mathlib.Nat.{add-zero}
 use Rattle.format.specs.Bytes.{chosen}
-use Rattle.slots.specs.Source.{slotOf}
+use Rattle.format.proofs.RowLaws.{set-none}
+use Rattle.slots.specs.Source.{slotOf, wordAt}
 use Rattle.slots.proofs.Reading.{slot-past}
 use Rattle.measure.specs.Spans.{offsetFrom, spans}
 use Rattle.nesting.proofs.Sieve.{node-few, skip-fits}
 use Rattle.measure.proofs.Texts.{first-fits, offset-lies}
-use Rattle.measure.proofs.Spanned.{no-words, rising-word, word-small, word-fits, word-more, all-words}
+use Rattle.measure.proofs.Spanned.{no-words, spans-none, rising-word, word-small, word-fits, word-more, all-words}
 use Rattle.measure.proofs.root.bytes_at_root.Statement.{statement}
 use Rattle.measure.proofs.root.bytes_at_root.Tie as tie
 
@@ -62,37 +65,62 @@ loop-holds c = (omega arith, no-words (c .before .before .before .before .pre .1
 mul-loop : tie.Need-mul-loop Inv-loop μ-loop
 mul-loop c = omega (arith, c .before .before .before .before .before .pre .0 .small, c .before .before .before .before .before .pre .0 .values)
 
-word-requires : tie.Need-word-requires Inv-loop μ-loop
-word-requires c κs = (c .before .before .before .before .before .before .pre .0, omega arith)
+mul-if1 : tie.Need-mul-if1 Inv-loop μ-loop
+mul-if1 c = omega (arith, c .before .before .before .before .before .before .pre .0 .small, c .before .before .before .before .before .before .pre .0 .values)
 
-mul-word-bytes : tie.Need-mul-word-bytes Inv-loop μ-loop
-mul-word-bytes c = omega (arith, c .before .before .before .before .before .before .before .pre .0 .small, c .before .before .before .before .before .before .before .pre .0 .values)
+add-if1 : tie.Need-add-if1 Inv-loop μ-loop
+add-if1 c = omega (arith, c .before .before .before .before .before .before .pre .0 .small, c .before .before .before .before .before .before .pre .0 .values)
+
+word-in-requires : tie.Need-word-in-requires Inv-loop μ-loop
+word-in-requires c κs = (c .before .before .before .before .before .before .before .pre .0, omega arith)
+
+word-requires : tie.Need-word-requires Inv-loop μ-loop
+word-requires c κs = (c .before .before .before .before .before .before .before .pre .0, omega arith)
+
+-- by either way it is the mask's word
+is-word : (c : tie.Joined1 Inv-loop μ-loop) →
+    let a = c .before .before .before .before .before .before .before .args in
+    c .if1 .x ≡ wordAt (a .mask .now) (a .bits) (c .before .before .loop .i)
+is-word c = ⊎-elim (λ v. v .2 ∙ v .1 .ensures) (λ v. v .2 ∙ v .1 .ensures) (c .if1 .came)
+
+mul-base : tie.Need-mul-base Inv-loop μ-loop
+mul-base c = omega (arith, c .before .before .before .before .before .before .before .pre .0 .small, c .before .before .before .before .before .before .before .pre .0 .values)
+
+add-i : tie.Need-add-i Inv-loop μ-loop
+add-i c = omega (arith, c .before .before .before .before .before .before .before .pre .0 .small, c .before .before .before .before .before .before .before .pre .0 .values)
 
 word-bytes-requires : tie.Need-word-bytes-requires Inv-loop μ-loop
 word-bytes-requires c κs =
-    let m = 64 * c .before .before .loop .i in (
-      c .before .before .before .before .before .before .before .pre .1 .1 .1,
+    let m = 64 * c .before .before .before .loop .i in (
+      c .before .before .before .before .before .before .before .before .pre .1 .1 .1,
       (
-        rising-word (c .before .before .before .before .before .before .before .pre .1 .0) (c .before .before .before .before .before .before .before .pre .1 .1 .0) (c .before .before .before .before .before .before .before .pre .1 .1 .2) (c .before .before .before .before .before .before .before .pre .1 .1 .3) (λ j h. slot-past _ _ j h) m (c .word .ensures),
-        word-small (c .before .before .before .before .before .before .before .pre .1 .0) (c .before .before .before .before .before .before .before .pre .1 .1 .0) (c .before .before .before .before .before .before .before .pre .1 .1 .2) (c .before .before .before .before .before .before .before .pre .1 .1 .3) (λ j h. slot-past _ _ j h) m (c .word .ensures),
+        rising-word (c .before .before .before .before .before .before .before .before .pre .1 .0) (c .before .before .before .before .before .before .before .before .pre .1 .1 .0) (c .before .before .before .before .before .before .before .before .pre .1 .1 .2) (c .before .before .before .before .before .before .before .before .pre .1 .1 .3) (λ j h. slot-past _ _ j h) m (is-word (c .before)),
+        word-small (c .before .before .before .before .before .before .before .before .pre .1 .0) (c .before .before .before .before .before .before .before .before .pre .1 .1 .0) (c .before .before .before .before .before .before .before .before .pre .1 .1 .2) (c .before .before .before .before .before .before .before .before .pre .1 .1 .3) (λ j h. slot-past _ _ j h) m (is-word (c .before)),
       ),
     )
 
 add-n : tie.Need-add-n Inv-loop μ-loop
 add-n c =
-    let m = 64 * c .before .before .before .loop .i in
-    omega (arith, word-fits (c .before .before .before .before .before .before .before .before .pre .1 .0) (c .before .before .before .before .before .before .before .before .pre .1 .1 .0) (c .before .before .before .before .before .before .before .before .pre .1 .1 .2) (c .before .before .before .before .before .before .before .before .pre .1 .1 .3) (λ j h. slot-past _ _ j h) m (c .before .word .ensures) (c .before .before .before .loop .inv .1) (c .word-bytes .ensures))
-
-add-i : tie.Need-add-i Inv-loop μ-loop
-add-i c = omega (arith, c .before .before .before .before .before .before .before .before .pre .0 .small, c .before .before .before .before .before .before .before .before .pre .0 .values)
+    let m = 64 * c .before .before .before .before .loop .i in
+    omega (arith, word-fits (c .before .before .before .before .before .before .before .before .before .pre .1 .0) (c .before .before .before .before .before .before .before .before .before .pre .1 .1 .0) (c .before .before .before .before .before .before .before .before .before .pre .1 .1 .2) (c .before .before .before .before .before .before .before .before .before .pre .1 .1 .3) (λ j h. slot-past _ _ j h) m (is-word (c .before .before)) (c .before .before .before .before .loop .inv .1) (c .word-bytes .ensures))
 
 loop-less : tie.Need-loop-less Inv-loop μ-loop
 loop-less c = omega arith
 
 loop-again : tie.Need-loop-again Inv-loop μ-loop
 loop-again c =
+    let m = 64 * c .before .before .before .before .loop .i in
+    (omega arith, word-more (c .before .before .before .before .before .before .before .before .before .pre .1 .0) (c .before .before .before .before .before .before .before .before .before .pre .1 .1 .0) (c .before .before .before .before .before .before .before .before .before .pre .1 .1 .2) (c .before .before .before .before .before .before .before .before .before .pre .1 .1 .3) (λ j h. slot-past _ _ j h) m (is-word (c .before .before)) (c .before .before .before .before .loop .inv .1) (c .word-bytes .ensures) _ (omega arith))
+
+loop-less-2 : tie.Need-loop-less-2 Inv-loop μ-loop
+loop-less-2 c = omega arith
+
+-- an empty word has no bytes
+loop-again-2 : tie.Need-loop-again-2 Inv-loop μ-loop
+loop-again-2 c =
     let m = 64 * c .before .before .before .loop .i in
-    (omega arith, word-more (c .before .before .before .before .before .before .before .before .pre .1 .0) (c .before .before .before .before .before .before .before .before .pre .1 .1 .0) (c .before .before .before .before .before .before .before .before .pre .1 .1 .2) (c .before .before .before .before .before .before .before .before .pre .1 .1 .3) (λ j h. slot-past _ _ j h) m (c .before .word .ensures) (c .before .before .before .loop .inv .1) (c .word-bytes .ensures) _ (omega arith))
+    let more = word-more (c .before .before .before .before .before .before .before .before .pre .1 .0) (c .before .before .before .before .before .before .before .before .pre .1 .1 .0) (c .before .before .before .before .before .before .before .before .pre .1 .1 .2) (c .before .before .before .before .before .before .before .before .pre .1 .1 .3) (λ j h. slot-past _ _ j h) m (is-word (c .before)) (c .before .before .before .loop .inv .1) (sym (spans-none _ _ (set-none m _ (c .if2 .left)))) (64 * (c .before .before .before .loop .i + 1)) (omega arith) in
+    (omega arith, sym (add-zero _) ∙ more)
 
 returns : tie.Need-returns Inv-loop μ-loop
 returns c = all-words (c .before .before .before .before .before .before .pre .1 .0) (c .before .before .before .before .before .before .pre .1 .1 .0) (c .before .before .before .before .before .before .pre .1 .1 .2) (c .before .before .before .before .before .before .pre .1 .1 .3) (λ j h. slot-past _ _ j h) (64 * c .before .loop .i) (omega arith) (c .before .loop .inv .1)
@@ -117,11 +145,16 @@ bytes-at-root-spec =
     add-first-3
     loop-holds
     mul-loop
+    mul-if1
+    add-if1
+    word-in-requires
     word-requires
-    mul-word-bytes
+    mul-base
+    add-i
     word-bytes-requires
     add-n
-    add-i
     loop-less
     loop-again
+    loop-less-2
+    loop-again-2
     returns)

@@ -3,10 +3,12 @@ use native.Mathlib.Omega.{arith}
 use borrow.Author.Needs.{needs}
 use Prim.Native.Nat.{_+_, _*_, _-_, _≤_}
 use mathlib.Core.Bool.{false, not, _&&_}
+use mathlib.Core.Logic.{⊎-elim}
+use mathlib.Core.Path.{_≡_, _∙_}
 use Rattle.format.specs.Bytes.{bitIn}
 use Rattle.format.specs.Slots.{All}
 use Rattle.format.proofs.SlotLaws.{all-none}
-use Rattle.slots.specs.Source.{slotOf}
+use Rattle.slots.specs.Source.{slotOf, wordAt}
 use Rattle.slots.proofs.Reading.{slot-past}
 use Rattle.measure.proofs.Rooted.{null-here, null-not, null-end}
 use Rattle.measure.proofs.root.null_at_root.Statement.{statement}
@@ -24,29 +26,44 @@ loop-holds c = (omega arith, all-none (omega arith))
 mul-loop : tie.Need-mul-loop Inv-loop μ-loop
 mul-loop c = omega (arith, c .before .before .before .pre .0 .small, c .before .before .before .pre .0 .values)
 
+mul-if1 : tie.Need-mul-if1 Inv-loop μ-loop
+mul-if1 c = omega (arith, c .before .before .before .before .pre .0 .small, c .before .before .before .before .pre .0 .values)
+
+add-if1 : tie.Need-add-if1 Inv-loop μ-loop
+add-if1 c = omega (arith, c .before .before .before .before .pre .0 .small, c .before .before .before .before .pre .0 .values)
+
+word-in-requires : tie.Need-word-in-requires Inv-loop μ-loop
+word-in-requires c κs = (c .before .before .before .before .before .pre .0, omega arith)
+
 word-requires : tie.Need-word-requires Inv-loop μ-loop
-word-requires c κs = (c .before .before .before .before .pre .0, omega arith)
+word-requires c κs = (c .before .before .before .before .before .pre .0, omega arith)
 
-mul-bits64 : tie.Need-mul-bits64 Inv-loop μ-loop
-mul-bits64 c = omega (arith, c .before .before .before .before .before .pre .0 .small, c .before .before .before .before .before .pre .0 .values)
+-- by either way it is the mask's word
+is-word : (c : tie.Joined1 Inv-loop μ-loop) →
+    let a = c .before .before .before .before .before .args in
+    c .if1 .x ≡ wordAt (a .mask .now) (a .bits) (c .before .before .loop .w)
+is-word c = ⊎-elim (λ v. v .2 ∙ v .1 .ensures) (λ v. v .2 ∙ v .1 .ensures) (c .if1 .came)
 
-add-bits64 : tie.Need-add-bits64 Inv-loop μ-loop
-add-bits64 c = omega (arith, c .before .before .before .before .before .pre .0 .small, c .before .before .before .before .before .pre .0 .values, c .before .before .before .before .before .pre .1)
+mul-load64 : tie.Need-mul-load64 Inv-loop μ-loop
+mul-load64 c = omega (arith, c .before .before .before .before .before .pre .0 .small, c .before .before .before .before .before .pre .0 .values)
 
-bits64-requires : tie.Need-bits64-requires Inv-loop μ-loop
-bits64-requires c κs = search needs
+add-load64 : tie.Need-add-load64 Inv-loop μ-loop
+add-load64 c = omega (arith, c .before .before .before .before .before .pre .0 .small, c .before .before .before .before .before .pre .0 .values, c .before .before .before .before .before .pre .1)
+
+load64-requires : tie.Need-load64-requires Inv-loop μ-loop
+load64-requires c κs = search needs
 
 add-w : tie.Need-add-w Inv-loop μ-loop
 add-w c = omega (arith, c .before .before .before .before .before .before .pre .0 .small, c .before .before .before .before .before .before .pre .0 .values)
 
 returns : tie.Need-returns Inv-loop μ-loop
-returns c = null-here (slotOf _ _) _ _ (64 * c .before .before .before .before .loop .w) (c .before .before .word .ensures) (c .before .bits64 .ensures) _ (λ j h. slot-past _ _ j h) (c .if1 .taken)
+returns c = null-here (slotOf _ _) _ _ (64 * c .before .before .before .before .before .loop .w) (is-word (c .before .before .before)) (c .before .before .load64 .ensures) _ (λ j h. slot-past _ _ j h) (c .if2 .taken)
 
 loop-less : tie.Need-loop-less Inv-loop μ-loop
 loop-less c = omega arith
 
 loop-again : tie.Need-loop-again Inv-loop μ-loop
-loop-again c = (omega arith, null-not (slotOf _ _) _ _ (64 * c .before .before .before .before .loop .w) (c .before .before .word .ensures) (c .before .bits64 .ensures) (c .if1 .left) (c .before .before .before .before .loop .inv .1) _ (omega arith))
+loop-again c = (omega arith, null-not (slotOf _ _) _ _ (64 * c .before .before .before .before .before .loop .w) (is-word (c .before .before .before)) (c .before .before .load64 .ensures) (c .if2 .left) (c .before .before .before .before .before .loop .inv .1) _ (omega arith))
 
 returns-2 : tie.Need-returns-2 Inv-loop μ-loop
 returns-2 c = null-end (λ j. slotOf _ _ j && not (bitIn _ (_ + j))) _ _ (omega arith) (c .before .loop .inv .1)
@@ -59,10 +76,13 @@ null-at-root-spec =
     μ-loop
     loop-holds
     mul-loop
+    mul-if1
+    add-if1
+    word-in-requires
     word-requires
-    mul-bits64
-    add-bits64
-    bits64-requires
+    mul-load64
+    add-load64
+    load64-requires
     add-w
     returns
     loop-less

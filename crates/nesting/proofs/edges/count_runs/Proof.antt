@@ -1,10 +1,14 @@
 -- `nesting::edges::count_runs` meets its contract. The loop's invariant: n counts the kept runs below j, and run j starts at lo. Assumes nothing.
 use Prim.Native.Nat.{suc, _≤_, _-_}
+use mathlib.Core.Bool.{and-eq-true-iff}
+use mathlib.Core.Logic.{⊎-elim}
 use mathlib.Core.Path.{_≡_, ap, _∙_}
 use native.Mathlib.Omega.{arith}
+use borrow.Author.Tests.{leb-true}
 use lib.ListN.{length}
 use Rattle.format.specs.Bytes.{chosen}
 use Rattle.format.specs.Node.{rows}
+use Rattle.slots.specs.Source.{slotOf, anyIn}
 use Rattle.nesting.specs.Rows.{edge}
 use Rattle.nesting.proofs.Sieve.{byte-small, count-more, count-none}
 use Rattle.nesting.proofs.RunEdges.{few, runs-are, runs-small, edge-first, edge-last, edge-rises, runPicked, kept-picked}
@@ -43,17 +47,41 @@ most c = let r = c .before .before .before .before .before .pre .1 .runs in rw (
 end-edge-requires : tie.Need-end-edge-requires Inv-loop μ-loop
 end-edge-requires c κs = (c .before .before .before .before .before .pre .1 .runs, omega arith)
 
-any-within-requires : tie.Need-any-within-requires Inv-loop μ-loop
-any-within-requires c κs =
+-- the run does not end before it starts, nor past the last slot
+order : (c : tie.After-end-edge Inv-loop μ-loop) → c .before .before .loop .lo ≤ c .end-edge .result
+order c =
     let s = c .before .before .before .before .before .before in
     let l = c .before .before .loop in
-    (s .pre .0, (rw (c .end-edge .ensures, l .inv .3) (edge-rises (s .pre .1 .runs) _ (l .j) (omega arith)), rw (c .end-edge .ensures) (edge-last _ _ _ _)))
+    rw (c .end-edge .ensures, l .inv .3) (edge-rises (s .pre .1 .runs) _ (l .j) (omega arith))
+
+top : (c : tie.After-end-edge Inv-loop μ-loop) → c .end-edge .result ≤ c .before .before .before .before .before .before .args .bits .len
+top c = rw (c .end-edge .ensures) (edge-last _ _ _ _)
+
+sub-if1 : tie.Need-sub-if1 Inv-loop μ-loop
+sub-if1 c = order c
+
+add-if1 : tie.Need-add-if1 Inv-loop μ-loop
+add-if1 c =
+    let p = c .before .before .before .before .before .before .pre .0 in
+    omega (arith, order c, top c, p .small, p .values)
+
+any-short-requires : tie.Need-any-short-requires Inv-loop μ-loop
+any-short-requires c κs =
+    let both = and-eq-true-iff _ _ .0 (c .if1 .taken) in
+    (c .before .before .before .before .before .before .before .pre .0, (order (c .before), leb-true _ _ (both .0), leb-true _ _ (both .1)))
+
+-- by either way the run has a picked slot
+picked : (c : tie.Joined1 Inv-loop μ-loop) →
+    let e = c .before in
+    let a = e .before .before .before .before .before .before .args in
+    c .if1 .some ≡ anyIn (slotOf (a .mask .now) (a .bits)) (e .before .before .loop .lo) (e .end-edge .result)
+picked c = ⊎-elim (λ v. v .2 ∙ v .1 .ensures) (λ v. v .2 ∙ v .1 .ensures) (c .if1 .came)
 
 cast-n : tie.Need-cast-n Inv-loop μ-loop
-cast-n c = omega (arith, byte-small (c .any-within .result))
+cast-n c = omega (arith, byte-small (c .if1 .some))
 
 add-n : tie.Need-add-n Inv-loop μ-loop
-add-n c = omega (arith, byte-small (c .any-within .result), most (c .before .before))
+add-n c = omega (arith, byte-small (c .if1 .some), most (c .before .before))
 
 add-j : tie.Need-add-j Inv-loop μ-loop
 add-j c = omega (arith, most (c .before .before))
@@ -65,7 +93,7 @@ loop-again : tie.Need-loop-again Inv-loop μ-loop
 loop-again c =
     let l = c .before .before .before .loop in
     let e = c .before .end-edge .ensures in
-    (l .inv .0, omega arith, omega (arith, byte-small (c .any-within .result)), e, count-more _ (l .j) (l .inv .4) (rw (l .inv .3, e) at (c .any-within .ensures)))
+    (l .inv .0, omega arith, omega (arith, byte-small (c .if1 .some)), e, count-more _ (l .j) (l .inv .4) (rw (l .inv .3, e) at (picked c)))
 
 returns : tie.Need-returns Inv-loop μ-loop
 returns c =
@@ -87,7 +115,10 @@ count-runs-spec =
     cast-runs
     loop-holds
     end-edge-requires
-    any-within-requires
+    sub-if1
+    add-if1
+    any-short-requires
+    (λ c κs. (c .before .before .before .before .before .before .before .pre .0, (order (c .before), top (c .before))))
     cast-n
     add-n
     add-j

@@ -1,0 +1,2 @@
+-- The laws of a buffer behind the body.
+pub mod PutLaws

@@ -1,0 +1,15 @@
+-- Kept rows taken from the mask's words, between two blocks of a selection. Assumes nothing.
+use Prim.Native.Nat.{ℕ, _-_, _≤_}
+use mathlib.Core.Bool.{Bool}
+use mathlib.Core.List.{List}
+use Rattle.format.specs.Put.{Wrote}
+use Rattle.format.specs.Slots.{picksFrom}
+use Rattle.predicate.specs.declared.Selection.{Selection}
+use Rattle.predicate.specs.declared.Cursor.{Cursor}
+use Rattle.predicate.specs.Selection.{InStep}
+
+-- the bytes f of the rows kept from cursor c up to cursor d were written
+pub record Passed (f : List ℕ → List ℕ) (sel : Selection) (p : ℕ → Bool) (len : ℕ) (list : List ℕ) (c : Cursor) (old : List ℕ) (at : ℕ) (new : List ℕ) (next : ℕ) (d : Cursor) : Type 0 where
+  pub on : c .place ≤ d .place
+  pub step : InStep sel p len list d
+  pub wrote : Wrote old at (f (picksFrom p (d .place - c .place) (c .place))) new next

@@ -1,0 +1,52 @@
+-- The bitmap of a node's kept rows: there is one where a row is null, and its bits are those that stand in the journal. Assumes nothing.
+use Prim.Native.Nat.{ℕ, _+_, _*_}
+use mathlib.Core.Path.{_≡_, refl, sym, ap, ap₂, _∙_}
+use mathlib.Core.Bool.{Bool, true, false, true≢false}
+use mathlib.Core.List.{List, [], _∷_, map}
+use native.Mathlib.Nat.{add-assoc}
+use Rattle.format.specs.Bytes.{bitAt, packed}
+use Rattle.format.specs.Node.{skip, validityAt, hasNoBitmap, valid}
+use Rattle.format.specs.Write.{absent, holds, anyNull, bitmap}
+use Rattle.bitmaps.specs.Push.{bitFrom}
+use Rattle.pack.specs.Read.{nodeOf}
+use Rattle.pack.specs.declared.Node.{Node}
+
+-- a null row shows that there is a bitmap
+all-valid : (b : List ℕ) (i : ℕ) (rs : List ℕ) → hasNoBitmap b i ≡ true → anyNull (map (valid b i) rs) ≡ false
+unfolding anyNull valid
+all-valid b i [] h = refl
+all-valid b i (r ∷ rs) h = rw h (all-valid b i rs h)
+
+pub null-marked : (b : List ℕ) (i : ℕ) (rs : List ℕ) → anyNull (map (valid b i) rs) ≡ true → hasNoBitmap b i ≡ false
+null-marked b i rs h = go (hasNoBitmap b i) refl
+  where
+    go : (t : Bool) → hasNoBitmap b i ≡ t → t ≡ false
+    go true e = absurd (true≢false (sym h ∙ all-valid b i rs e))
+    go false e = refl
+
+-- the bits of a bitmap are those of the values that stand there
+pub map-same : (f g : ℕ → Bool) (rs : List ℕ) → ((r : ℕ) → f r ≡ g r) → map f rs ≡ map g rs
+map-same f g [] h = refl
+map-same f g (r ∷ rs) h = ap₂ _∷_ (h r) (map-same f g rs h)
+
+pub marks-are : (b : List ℕ) (i : ℕ) (rs : List ℕ) → hasNoBitmap b i ≡ false → map (valid b i) rs ≡ map (bitFrom b (8 * validityAt b i + skip b i)) rs
+unfolding valid bitAt bitFrom
+marks-are b i rs h = map-same (valid b i) (bitFrom b (8 * validityAt b i + skip b i)) rs (λ r. rw (h, add-assoc))
+
+-- the bitmap of marks with a null, and of marks without
+pub bitmap-null : (vs : List Bool) → anyNull vs ≡ true → bitmap vs ≡ holds (packed vs)
+unfolding bitmap
+bitmap-null vs h = rw h
+
+pub bitmap-none : (vs : List Bool) → anyNull vs ≡ false → bitmap vs ≡ absent
+unfolding bitmap
+bitmap-none vs h = rw h
+
+-- marks with a null as the code reads them, row 0 at bit `from`
+pub null-bitmap : (b : List ℕ) (i : ℕ) (rs : List ℕ) (from : ℕ) → anyNull (map (valid b i) rs) ≡ true → from ≡ 8 * validityAt b i + skip b i
+    → bitmap (map (valid b i) rs) ≡ holds (packed (map (bitFrom b from) rs))
+null-bitmap b i rs from h e =
+    bitmap-null (map (valid b i) rs) h ∙ ap (λ (vs : List Bool). holds (packed vs)) (marks-are b i rs (null-marked b i rs h) ∙ rw e)
+
+pub from-is : (b : List ℕ) (i : ℕ) (node : Node) → node ≡ nodeOf b i → 8 * node .«validity_at» + node .skip ≡ 8 * validityAt b i + skip b i
+from-is b i node e = rw e

@@ -1,0 +1,2 @@
+-- The laws of a prepared mask's answer.
+pub mod Slips

@@ -1,0 +1,3 @@
+-- The laws of a column of own bytes that is written block by block.
+pub mod TextWalk
+pub mod Buffers
