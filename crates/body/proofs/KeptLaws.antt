@@ -1,9 +1,9 @@
 -- What putting one node's buffers and fields asks of the journal, and that all its fields fit in 32 bits. Assumes nothing.
 use Prim.Native.Nat.{ℕ, _+_, _*_, _≤_, _<_}
-use mathlib.Core.Path.{_≡_, _∙_}
+use mathlib.Core.Path.{_≡_, refl, _∙_}
 use mathlib.Core.List.{List, [], _∷_}
 use native.Mathlib.Omega.{arith}
-use lib.ListN.{length, length-append, length-map}
+use lib.ListN.{length, set, length-append, length-map}
 use Rattle.format.specs.declared.Kind.{Kind}
 use Rattle.format.specs.Accepted.{Sound}
 use Rattle.format.specs.Bytes.{join}
@@ -12,6 +12,7 @@ use Rattle.format.specs.Node.{noBitmap, nodeCount, kindOf, kind, rows, places, 
 use Rattle.format.specs.Put.{put}
 use Rattle.format.specs.Verdict.{packLimit}
 use Rattle.format.specs.Write.{Buffer, bitmap, first, second, dataLength}
+use Rattle.format.proofs.Put.{Left, whole, stored, done}
 use Rattle.format.proofs.SlotLaws.{count-le}
 use Rattle.append.specs.Cells.{padding}
 use Rattle.buffers.specs.Place.{appended, ending, rowsBy}
@@ -22,9 +23,10 @@ use Rattle.pack.specs.declared.Node.{Node}
 use Rattle.predicate.specs.declared.Selection.{Selection}
 use Rattle.predicate.specs.Selection.{keptBy}
 use Rattle.slots.specs.declared.Bits.{Bits}
-use Rattle.body.specs.Added.{Added, Chosen, columnOf, Written}
-use Rattle.body.specs.declared.Buffers.{Buffers}
-use Rattle.body.proofs.AddLaws.{start-within, body-end}
+use Rattle.node_body.specs.Added.{Added}
+use Rattle.node_body.specs.declared.Buffers.{Buffers}
+use Rattle.node_body.proofs.AddLaws.{start-within, body-end}
+use Rattle.body.specs.Written.{Chosen, columnOf, Written}
 
 -- ---- the node and its rows
 
@@ -82,6 +84,24 @@ module _ {k : KeptNode} {old : List ℕ} {at : ℕ} {new : List ℕ} {r : Buffer
   data-fits = rw (a .size) (omega (arith, all-end, data-within (ending (ending at (bitmap (k .marks))) (first (k .values))) (k .values)))
 
 -- ---- its fields
+
+-- ten stores in a row
+pub ten-stores : (old : List ℕ) (at k p n z c v f s d y : ℕ)
+    → set (set (set (set (set (set (set (set (set (set old at k) (at + 1) p) (at + 2) n) (at + 3) z) (at + 4) c) (at + 5) v) (at + 6) f) (at + 7) s) (at + 8) d) (at + 9) y
+    ≡ put old at (k ∷ p ∷ n ∷ z ∷ c ∷ v ∷ f ∷ s ∷ d ∷ y ∷ [])
+ten-stores old at k p n z c v f s d y =
+    let l0 : Left old at (k ∷ p ∷ n ∷ z ∷ c ∷ v ∷ f ∷ s ∷ d ∷ y ∷ []) old at (k ∷ p ∷ n ∷ z ∷ c ∷ v ∷ f ∷ s ∷ d ∷ y ∷ []) = whole refl refl in
+    let l1 = stored {next = at + 1} l0 refl refl in
+    let l2 = stored {next = at + 2} l1 refl (omega arith) in
+    let l3 = stored {next = at + 3} l2 refl (omega arith) in
+    let l4 = stored {next = at + 4} l3 refl (omega arith) in
+    let l5 = stored {next = at + 5} l4 refl (omega arith) in
+    let l6 = stored {next = at + 6} l5 refl (omega arith) in
+    let l7 = stored {next = at + 7} l6 refl (omega arith) in
+    let l8 = stored {next = at + 8} l7 refl (omega arith) in
+    let l9 = stored {next = at + 9} l8 refl (omega arith) in
+    let l10 = stored {next = at + 10} l9 refl (omega arith) in
+    done l10 refl refl .bytes
 
 pub written-of : (b : List ℕ) (i : ℕ) (rs : List ℕ) {old : List ℕ} {at : ℕ} {new : List ℕ} {r : Buffers} → Added (keptNode b i rs) old at new r
     → (node : Node) (n : ℕ) (fields after : List ℕ) → node ≡ nodeOf b i → n ≡ length rs

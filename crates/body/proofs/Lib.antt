@@ -1,4 +1,3 @@
 -- Laws of this crate.
-pub mod AddLaws
 pub mod KeptLaws
 pub mod SelectLaws

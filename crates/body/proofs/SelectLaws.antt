@@ -12,7 +12,7 @@ use Rattle.buffers.specs.Place.{rowsBy}
 use Rattle.predicate.specs.declared.Selection.{Selection}
 use Rattle.regions.specs.Region.{Selects}
 use Rattle.slots.specs.declared.Bits.{Bits}
-use Rattle.body.specs.Added.{Chosen, Written}
+use Rattle.body.specs.Written.{Chosen, Written}
 
 module _ {b : List ℕ} {i : ℕ} {root : List ℕ} {sel : Selection} {s : List ℕ} {bits : Bits} {list : List ℕ} (t : Selects b i root sel s bits list) where
   pub chosen-of : Chosen b i sel s bits list

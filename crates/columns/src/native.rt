@@ -6,7 +6,7 @@ ghost use Rattle.format.specs.Put.{Wrote};
 ghost use Rattle.format.specs.Slots.{picksFrom};
 ghost use Rattle.predicate.specs.Selection.{Holds, Readable, keptBy};
 ghost use Rattle.append.specs.Cells.{entriesOf, Entries};
-use crate::scattered;
+use crate::from_mask;
 use append::entries;
 use predicate::Block;
 use predicate::Cursor;
@@ -36,11 +36,24 @@ fn filter_native1(
         match predicate::next_block(sel, s, mask, list, cur) {
             Block::Run(a, e, next) => {
                 here = entries::copy_rows(out, here, journal, first, 1, a, e);
-                cur = next;
+                let taken = from_mask::pass_runs(
+                    out,
+                    here,
+                    journal,
+                    first,
+                    1,
+                    sel,
+                    s,
+                    mask,
+                    list,
+                    next,
+                );
+                here = taken.next;
+                cur = taken.cur;
             }
             Block::Word(base, x, next) => {
                 here = entries::gather_word1(out, here, journal, first, base, x);
-                let taken = scattered::pass_words1(
+                let taken = from_mask::pass_words1(
                     out,
                     here,
                     journal,
@@ -86,11 +99,24 @@ fn filter_native2(
         match predicate::next_block(sel, s, mask, list, cur) {
             Block::Run(a, e, next) => {
                 here = entries::copy_rows(out, here, journal, first, 2, a, e);
-                cur = next;
+                let taken = from_mask::pass_runs(
+                    out,
+                    here,
+                    journal,
+                    first,
+                    2,
+                    sel,
+                    s,
+                    mask,
+                    list,
+                    next,
+                );
+                here = taken.next;
+                cur = taken.cur;
             }
             Block::Word(base, x, next) => {
                 here = entries::gather_word2(out, here, journal, first, base, x);
-                let taken = scattered::pass_words2(
+                let taken = from_mask::pass_words2(
                     out,
                     here,
                     journal,
@@ -136,11 +162,24 @@ fn filter_native4(
         match predicate::next_block(sel, s, mask, list, cur) {
             Block::Run(a, e, next) => {
                 here = entries::copy_rows(out, here, journal, first, 4, a, e);
-                cur = next;
+                let taken = from_mask::pass_runs(
+                    out,
+                    here,
+                    journal,
+                    first,
+                    4,
+                    sel,
+                    s,
+                    mask,
+                    list,
+                    next,
+                );
+                here = taken.next;
+                cur = taken.cur;
             }
             Block::Word(base, x, next) => {
                 here = entries::gather_word4(out, here, journal, first, base, x);
-                let taken = scattered::pass_words4(
+                let taken = from_mask::pass_words4(
                     out,
                     here,
                     journal,
@@ -186,11 +225,24 @@ fn filter_native8(
         match predicate::next_block(sel, s, mask, list, cur) {
             Block::Run(a, e, next) => {
                 here = entries::copy_rows(out, here, journal, first, 8, a, e);
-                cur = next;
+                let taken = from_mask::pass_runs(
+                    out,
+                    here,
+                    journal,
+                    first,
+                    8,
+                    sel,
+                    s,
+                    mask,
+                    list,
+                    next,
+                );
+                here = taken.next;
+                cur = taken.cur;
             }
             Block::Word(base, x, next) => {
                 here = entries::gather_word8(out, here, journal, first, base, x);
-                let taken = scattered::pass_words8(
+                let taken = from_mask::pass_words8(
                     out,
                     here,
                     journal,
@@ -236,11 +288,24 @@ fn filter_native16(
         match predicate::next_block(sel, s, mask, list, cur) {
             Block::Run(a, e, next) => {
                 here = entries::copy_rows(out, here, journal, first, 16, a, e);
-                cur = next;
+                let taken = from_mask::pass_runs(
+                    out,
+                    here,
+                    journal,
+                    first,
+                    16,
+                    sel,
+                    s,
+                    mask,
+                    list,
+                    next,
+                );
+                here = taken.next;
+                cur = taken.cur;
             }
             Block::Word(base, x, next) => {
                 here = entries::gather_word16(out, here, journal, first, base, x);
-                let taken = scattered::pass_words16(
+                let taken = from_mask::pass_words16(
                     out,
                     here,
                     journal,
@@ -286,11 +351,24 @@ fn filter_native32(
         match predicate::next_block(sel, s, mask, list, cur) {
             Block::Run(a, e, next) => {
                 here = entries::copy_rows(out, here, journal, first, 32, a, e);
-                cur = next;
+                let taken = from_mask::pass_runs(
+                    out,
+                    here,
+                    journal,
+                    first,
+                    32,
+                    sel,
+                    s,
+                    mask,
+                    list,
+                    next,
+                );
+                here = taken.next;
+                cur = taken.cur;
             }
             Block::Word(base, x, next) => {
                 here = entries::gather_word32(out, here, journal, first, base, x);
-                let taken = scattered::pass_words32(
+                let taken = from_mask::pass_words32(
                     out,
                     here,
                     journal,
@@ -338,11 +416,24 @@ fn filter_native_any(
         match predicate::next_block(sel, s, mask, list, cur) {
             Block::Run(a, e, next) => {
                 here = entries::copy_rows(out, here, journal, first, width, a, e);
-                cur = next;
+                let taken = from_mask::pass_runs(
+                    out,
+                    here,
+                    journal,
+                    first,
+                    width,
+                    sel,
+                    s,
+                    mask,
+                    list,
+                    next,
+                );
+                here = taken.next;
+                cur = taken.cur;
             }
             Block::Word(base, x, next) => {
                 here = entries::gather_word_any(out, here, journal, first, width, base, x);
-                let taken = scattered::pass_words_any(
+                let taken = from_mask::pass_words_any(
                     out,
                     here,
                     journal,

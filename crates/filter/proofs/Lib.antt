@@ -1,5 +1,3 @@
 -- The laws of this crate.
-pub mod Selecting
-pub mod Filling
 pub mod Ways
 pub mod Demand3

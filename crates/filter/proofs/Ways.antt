@@ -32,7 +32,8 @@ use Rattle.slots.proofs.Masked.{mask-picks}
 use Rattle.prepare.proofs.Slips as mask
 use Rattle.nesting.specs.Rows.{picksOf, Ready, Table, Counts}
 use Rattle.nesting.proofs.Picks.{picks-sifted, count-picks}
-use Rattle.filter.specs.Call.{Accepted, Listed, Roomy, Routed}
+use Rattle.select.specs.Routed.{Routed}
+use Rattle.filter.specs.Call.{Accepted, Listed, Roomy}
 
 -- ---- a count that is not stated is not wrong
 

@@ -1,22 +1,17 @@
 -- How far a call has come: what its inner functions may rest on. Assumes nothing.
-use Prim.Native.Nat.{ℕ, _*_, _≤_}
-use mathlib.Core.Bool.{Bool, true, false, cond}
-use mathlib.Core.List.{List, []}
+use Prim.Native.Nat.{ℕ, _≤_}
+use mathlib.Core.Bool.{false}
+use mathlib.Core.List.{List}
 use mathlib.Core.Path.{_≡_}
 use lib.ListN.{length}
 use Rattle.format.specs.declared.Route.{Route}
-use Rattle.format.specs.Bytes.{over}
 use Rattle.format.specs.Node.{nodeCount}
 use Rattle.format.specs.Mask as Masks
-use Rattle.format.specs.Mask.{count, entries}
-use Rattle.format.specs.Slots.{picksFrom}
-use Rattle.format.specs.Verdict.{maskVerdict, journalVerdict}
+use Rattle.format.specs.Mask.{count}
+use Rattle.format.specs.Verdict.{journalVerdict}
 use Rattle.format.specs.Write.{extract}
 use Rattle.format.specs.Answer.{Call, wrongCount, tooLong, listShort, scratchNeeded, outputShort}
 use Rattle.slots.specs.declared.Bits.{Bits}
-use Rattle.slots.specs.Node.{bitsOf}
-use Rattle.predicate.specs.declared.Selection.{Selection}
-use Rattle.predicate.specs.Selection.{Holds, Sourced, keptBy}
 use Rattle.prepare.specs.Prepare.{Counted}
 use Rattle.nesting.specs.Rows.{picksOf, Ready}
 
@@ -41,22 +36,3 @@ pub record Roomy (c : Call) (bits : Bits) (kept : ℕ) (route : Route) (table pa
   pub fills : need ≤ length (c .scratch)
   pub sizes : size ≡ length (extract (c .journal) (picksOf (c .mask) bits))
   pub fits : outputShort (length (c .output)) size ≡ false
-
--- an accepted mask's bits and route, and a list that is not short if it is asked for
-pub record Routed (m : List ℕ) (bits : Bits) (route : Route) (asked : Bool) (list : List ℕ) : Type 0 where
-  pub accepted : maskVerdict m ≡ 0
-  pub source : bits ≡ bitsOf m 0
-  pub goes : route ≡ Masks.route m
-  pub room : asked ≡ true → length (entries m) ≤ length list
-
--- the mask's selection, its list stored if it is asked for: it picks the mask's rows
-pub record Selected (m : List ℕ) (bits : Bits) (asked : Bool) (old new : List ℕ) (sel : Selection) : Type 0 where
-  pub sourced : Sourced sel m bits
-  pub holds : Holds sel (keptBy sel m bits) (bits .len) new
-  pub kept : picksFrom (keptBy sel m bits) (bits .len) 0 ≡ picksOf m bits
-  pub listed : new ≡ over (cond asked (entries m) []) old
-
--- the answer is true only where no list is asked for and at most one in 64 slots is picked
-pub record Few (t asked : Bool) (kept len : ℕ) : Type 0 where
-  pub unasked : t ≡ true → asked ≡ false
-  pub few : t ≡ true → 64 * kept ≤ len

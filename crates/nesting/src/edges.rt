@@ -21,18 +21,6 @@ pub fn end_edge(journal: &[u8], table: &[u32; 640], i: usize, j: usize, len: usi
     least(less(run_end(journal, table, i, j), skip), len)
 }
 
-// Where it starts. There may be one more run than there are: it starts where the last one ends.
-pub fn start_edge(journal: &[u8], table: &[u32; 640], i: usize, j: usize, len: usize) -> usize
-    requires { ⌜ AtRuns (now journal) (now table) i ⌝ }
-    requires { ⌜ j ≤ rows (now journal) (suc i) ⌝ }
-    ensures { λ r. ⌜ r ≡ edge (now (journal .entry)) i len j ⌝ }
-{
-    if j == 0 {
-        return 0;
-    }
-    end_edge(journal, table, i, j - 1, len)
-}
-
 // How many runs have a picked slot. Each run end is read once.
 pub fn count_runs(mask: &[u8], bits: Bits, journal: &[u8], table: &[u32; 640], i: usize) -> usize
     requires { ⌜ Lies (now mask) bits ⌝ }

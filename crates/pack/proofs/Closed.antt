@@ -8,8 +8,8 @@ use borrow.Author.Tests.{ne-eqb}
 use lib.Dec.{eqb, ltb}
 use lib.ListN.{length, getD}
 use Rattle.format.specs.Bytes.{anyBelow}
-use Rattle.format.specs.Node.{Ancestor, nodeCount, param, rows, ofKind, hasNoBitmap, ancestors, parent, depth}
-use Rattle.format.specs.Verdict.{anyChild, empty, notClosed, badDataBuffer, wrongTree, badChildRows}
+use Rattle.format.specs.Node.{Ancestor, nodeCount, param, ofKind, hasNoBitmap, ancestors, parent, depth}
+use Rattle.format.specs.Verdict.{anyChild, empty, notClosed, badDataBuffer, wrongTree}
 use Rattle.content.proofs.Fold.{any-ext}
 use Rattle.pack.specs.declared.Walk.{Walk}
 use Rattle.pack.specs.Tree.{Walked}
@@ -49,9 +49,3 @@ pub data-buffer-is : (b : List ℕ) (i p : ℕ) {t : Bool} → p ≡ parent b i
     → (ltb 0 i && t) ≡ (ltb 0 i && badDataBuffer b i)
 unfolding badDataBuffer
 data-buffer-is b i p q e = ap (ltb 0 i &&_) (e ∙ rw q)
-
-pub child-rows-is : (b : List ℕ) (i p : ℕ) {t : Bool} → p ≡ parent b i
-    → t ≡ ((ofKind 10 b p || ofKind 11 b p) && not (eqb (rows b i) (rows b p)))
-    → (ltb 0 i && t) ≡ (ltb 0 i && badChildRows b i)
-unfolding badChildRows
-child-rows-is b i p q e = ap (ltb 0 i &&_) (e ∙ rw q)

@@ -1,4 +1,3 @@
 -- What the contracts of this crate cite beside the definitions of `format`.
-pub mod Laid
 pub mod Read
 pub mod Tree

@@ -13,9 +13,9 @@ fn say(text: &[u8]) {
 // The numbers of a pack.
 fn report(pack: &[u8]) {
     say(b" ");
-    io::print_decimal(STDOUT_FILENO, pack::check(pack));
+    io::print_decimal(STDOUT_FILENO, checker::check(pack));
     say(b" ");
-    io::print_decimal(STDOUT_FILENO, pack::check_mask(pack));
+    io::print_decimal(STDOUT_FILENO, checker::check_mask(pack));
     say(b"\n");
 }
 

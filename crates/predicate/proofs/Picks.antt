@@ -33,6 +33,14 @@ picks-span {p} {from} {a} {e} len l m h before within =
     let j : a + (e - a) ≡ e = omega arith in
     rw (n, picks-cat, i, picks-cat p (e - a), j, picks-none p (a - from) from (rw i before), picks-all p (e - a) a (rw j within))
 
+-- the rows up to the end of a span
+pub picks-run : {p : ℕ → Bool} {from a e : ℕ} → from ≤ a → a ≤ e → All p false from a → All p true a e → picksFrom p (e - from) from ≡ countUp (e - a) a
+picks-run {p} {from} {a} {e} l m before within =
+    let n : e - from ≡ (a - from) + (e - a) = omega arith in
+    let i : from + (a - from) ≡ a = omega arith in
+    let j : a + (e - a) ≡ e = omega arith in
+    rw (n, picks-cat, i, picks-none p (a - from) from (rw i before), picks-all p (e - a) a (rw j within))
+
 -- some rows off the picks
 pub picks-upto : (p : ℕ → Bool) (len from to : ℕ) → from ≤ to → to ≤ len → picksOn p len from ≡ picksFrom p (to - from) from ++ picksOn p len to
 unfolding picksOn

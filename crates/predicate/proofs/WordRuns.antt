@@ -21,7 +21,7 @@ use Rattle.slots.proofs.Scan.{Scanned, Hit, hit}
 use Rattle.predicate.specs.declared.Block.{Block}
 use Rattle.predicate.specs.declared.Block.the-variants as block
 use Rattle.predicate.specs.Selection.{picksOn}
-use Rattle.predicate.specs.Blocks.{Leaves, Worded, Found, Filled}
+use Rattle.predicate.specs.Blocks.{Leaves, Worded, Found, Filled, Ran}
 use Rattle.predicate.proofs.Picks.{picks-span}
 use Rattle.predicate.proofs.Steps.{word-leaves}
 
@@ -77,8 +77,12 @@ kept-on p from a i {e} h all = record { at = λ j l k. and-eq-true-iff (leb from
 
 -- ---- a run off the picks
 
-pub run-leaves : {p : ℕ → Bool} {from a e q : ℕ} (len : ℕ) → from ≤ a → a < e → e ≤ len → All p false from a → All p true a e → q ≡ e → Leaves p len from (countUp (e - a) a) q
-run-leaves len l m h before within s = record { rest = rw s (picks-span len l (omega arith) h before within); moves = omega arith; inside = omega arith }
+pub run-leaves : {p : ℕ → Bool} {len from a e q : ℕ} → Ran p len from a e → q ≡ e → Leaves p len from (countUp (e - a) a) q
+run-leaves {len = len} r s =
+    let low = r .low in
+    let some = r .some in
+    let high = r .high in
+    record { rest = rw s (picks-span len low (omega arith) high (r .before) (r .within)); moves = omega arith; inside = omega arith }
 
 -- rows that are not kept are passed over
 module _ {p : ℕ → Bool} {len from to : ℕ} (l : from ≤ to) (h : to ≤ len) (gap : All p false from to) where
@@ -129,14 +133,14 @@ module _ {p : ℕ → Bool} {from w x : ℕ} (f : Found p from w x) where
     zeros = gap-word (after p from) (64 * w) (trailingZeros 64 x) (trailing-le 64 x) (f .is) cut
 
     -- a run that goes on in the words after it
-    pub found-on : {len v e q : ℕ} → y ≡ 0 → v ≡ w + 1 → Filled p (64 * v) len e → q ≡ e → Leaves p len from (countUp (e - (64 * w + trailingZeros 64 x)) (64 * w + trailingZeros 64 x)) q
-    found-on {len} {v} {e} z n more s =
+    pub found-on : {len v e : ℕ} → y ≡ 0 → v ≡ w + 1 → Filled p (64 * v) len e → Ran p len from (64 * w + trailingZeros 64 x) e
+    found-on {len} {v} {e} z n more =
         let k = first-row in
         let near = k .inside in
         let to : 64 * v ≡ 64 * w + 64 = omega arith in
         let low = more .low in
         let word : All p true (64 * w + trailingZeros 64 x) (64 * w + 64) = kept-on p from _ (64 * w) (omega arith) (from-zero _ 64 (64 * w) (sym zeros ∙ z)) in
-        run-leaves len (k .beyond) (omega arith) (more .high) (k .skipped) (all-join word (rw (← to) (more .all))) s
+        record { low = k .beyond; some = omega arith; high = more .high; before = k .skipped; within = all-join word (rw (← to) (more .all)) }
 
     -- a run that ends within the word
     module _ (ne : y ≡ 0 → ⊥) where
@@ -158,9 +162,8 @@ module _ {p : ℕ → Bool} {from w x : ℕ} (f : Found p from w x) where
           let here : after p from a ≡ true = after-is p from a (first-row .beyond) ∙ first-row .passes in
           ⊎-elim (λ (s : a ≡ e). absurd (true≢false (sym (both .1) ∙ rw (← s, here)))) (λ m. m) (eq-or-lt-of-le l)
 
-      pub found-run : {len q : ℕ} → 64 * w + 64 ≤ len → q ≡ 64 * w + trailingZeros 64 y
-          → Leaves p len from (countUp ((64 * w + trailingZeros 64 y) - (64 * w + trailingZeros 64 x)) (64 * w + trailingZeros 64 x)) q
-      found-run {len} h s =
+      pub found-run : {len : ℕ} → 64 * w + 64 ≤ len → Ran p len from (64 * w + trailingZeros 64 x) (64 * w + trailingZeros 64 y)
+      found-run {len} h =
           let k = first-row in
           let near = end-near in
-          run-leaves len (k .beyond) end-after (omega arith) (k .skipped) (kept-on p from _ (64 * w) (omega arith) (ends-at .fails)) s
+          record { low = k .beyond; some = end-after; high = omega arith; before = k .skipped; within = kept-on p from _ (64 * w) (omega arith) (ends-at .fails) }

@@ -58,3 +58,17 @@ pub record Filled (p : ℕ → Bool) (a len r : ℕ) : Type 0 where
   pub low : a ≤ r
   pub high : r ≤ len
   pub all : All p true a r
+
+-- [a, e) are the first rows picked from `from` on: a run, which need not be maximal
+pub record Ran (p : ℕ → Bool) (len from a e : ℕ) : Type 0 where
+  pub low : from ≤ a
+  pub some : a < e
+  pub high : e ≤ len
+  pub before : All p false from a
+  pub within : All p true a e
+
+-- no row is said to be picked next, or a run is
+pub record NextRun (p : ℕ → Bool) (len from a e : ℕ) : Type 0 where
+  pub order : a ≤ e
+  pub high : e ≤ len
+  pub run : a < e → Ran p len from a e

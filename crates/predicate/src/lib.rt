@@ -1,13 +1,13 @@
 // From a mask's bits to the rows that every column filter takes: the selection, its stored list, and blocks of kept rows.
 ghost use mathlib.Core.Path.{_≡_};
-ghost use Prim.Native.Nat.{_+_, _*_, _^_, _≤_, _<_};
+ghost use Prim.Native.Nat.{_+_, _*_, _/_, _^_, _≤_, _<_};
 ghost use lib.ListN.{length};
 ghost use Rattle.format.specs.Put.{Wrote};
 ghost use Rattle.format.specs.Rows.{setRows, Below};
 ghost use Rattle.format.specs.Slots.{picksFrom, runsFrom, startsAndEnds};
 ghost use Rattle.slots.specs.Source.{slotOf, Lies};
 ghost use Rattle.predicate.specs.Selection.{InStep, keptBy, Readable, entriesOn, picksOn, selectionFor, lazy};
-ghost use Rattle.predicate.specs.Blocks.{Worded, Blocked, Found, Filled};
+ghost use Rattle.predicate.specs.Blocks.{Worded, Blocked, Found, Filled, NextRun};
 use format::Route;
 use slots::Bits;
 use slots::Run;
@@ -87,13 +87,11 @@ fn long(x: u64) -> bool {
     x % 0x1_0000 == 0xFFFF
 }
 
-// Whether the rows of a whole word go better as runs than one by one, as `word_block` decides. Nothing is promised here either: a column
-// that takes the mask's words itself asks for a block where this is so.
+// Whether a whole word starts or ends with 16 set bits, so that its rows go better as runs: a column that takes the mask's words itself asks for
+// a block there, and `word_block` decides. Nothing is promised here either. A count of the zeros, as `word_block` makes it, would cost five times
+// as much, at every word of a scattered mask.
 pub fn as_runs(x: u64) -> bool {
-    if x == 0 {
-        return false;
-    }
-    few(std::num::wrapping_sub_u64(slots::ONES, x | (x - 1))) | long(x)
+    long(x) | (x >> 48 == 0xFFFF)
 }
 
 // Whether the mask's own words say which rows are kept.
@@ -143,6 +141,44 @@ fn word_block(s: &[u8], b: Bits, place: usize, w: usize, x: u64, index: usize) -
     }
     let e = base + u64::trailing_zeros(y) as usize;
     Block::Run(a, e, Cursor { place: e, index })
+}
+
+// Rows from..to; none where the two are equal.
+pub struct Rows {
+    pub from: usize,
+    pub to: usize,
+}
+
+// The run of kept rows that starts next in the word of `place`, which may go on in later words; none where that word has no row left. For a column
+// that takes runs itself.
+pub fn run_from(s: &[u8], b: Bits, place: usize) -> Rows
+    requires { ⌜ Lies (now s) b ⌝ }
+    requires { ⌜ 64 * (place / 64) + 128 ≤ b .len ⌝ }
+    ensures { λ r. ⌜ NextRun (slotOf (now (s .entry)) b) (b .len) place (r .from) (r .to) ⌝ }
+{
+    let w = place / 64;
+    let x = slots::word_in(s, b, w) >> (place % 64) << (place % 64);
+    if x == 0 {
+        return Rows {
+            from: place,
+            to: place,
+        };
+    }
+    let base = 64 * w;
+    let t = u64::trailing_zeros(x) as usize;
+    let y = (slots::ONES - x) >> t << t;
+    if y == 0 {
+        let e = run_end(s, b, w + 1);
+        return Rows {
+            from: base + t,
+            to: e,
+        };
+    }
+    let e = base + u64::trailing_zeros(y) as usize;
+    Rows {
+        from: base + t,
+        to: e,
+    }
 }
 
 // The rows kept next, by the mask alone: from the word of `place` on, words of zeros are passed over.

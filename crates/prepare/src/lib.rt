@@ -91,7 +91,7 @@ fn prepare_accepted(
 pub fn prepare(mask: &[u8], states: bool, stated: u64, asked: bool, list: &mut [u32]) -> Prepared
     ensures { λ r. ⌜ Prepares (preparing (now (mask .entry)) (statedIf states stated) asked (now (list .entry))) r (now (list .exit)) ⌝ }
 {
-    let number = pack::check_mask(mask);
+    let number = checker::check_mask(mask);
     if number != 0 {
         return Prepared::Refused {
             number,

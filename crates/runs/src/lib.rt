@@ -53,8 +53,8 @@ fn count_words(s: &[u8], b: Bits, lo: usize, hi: usize) -> usize
     n + u64::count_ones(window(s, b, i, hi - i)) as usize
 }
 
-// How many slots of [lo, hi) are picked, where they are at most 57 and no read can leave the slice: small enough to be compiled into
-// its callers' loops, which choose between the two.
+// How many slots of [lo, hi) are picked, where one load of each bitmap has them (`slots::window57_in`): at most 57, and 64 before the last
+// slot. Small enough to be compiled into its callers' loops, which choose between the two.
 fn count_short(s: &[u8], b: Bits, lo: usize, hi: usize) -> usize
     requires { ⌜ Lies (now s) b ⌝ }
     requires { ⌜ (lo ≤ hi) × (hi - lo ≤ 57) × (lo + 64 ≤ b .len) ⌝ }
@@ -116,7 +116,7 @@ fn clipped(end: usize, skip: usize, len: usize) -> usize
     if row < len { row } else { len }
 }
 
-// `filter_run_ends` run by run, whatever the selection and the width.
+// `filter_run_ends` whatever the selection and the width, which are asked for each run: for all rows or none.
 fn ends_kept(
     out: &mut [u8],
     at: usize,
@@ -154,8 +154,7 @@ fn ends_kept(
     here
 }
 
-// `ends_kept` where bits say which rows are kept and a run end has 2 bytes: it is read and written as one word, with no choice in the loop
-// but that of the count.
+// `ends_kept` where bits say which rows are kept and a run end has 2 bytes: nothing is asked for each run but which count is due.
 fn ends2(
     out: &mut [u8],
     at: usize,

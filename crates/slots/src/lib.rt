@@ -94,7 +94,7 @@ pub fn bits64_in(s: &[u8], k: usize) -> u64
     wide(s[j]) >> r | words::get64(s, j + 1) << (8 - r)
 }
 
-// `bits64` by `bits64_in` where it stays in the slice: the test alone stands in a caller's loop, and the slow way is a call.
+// `bits64`, by `bits64_in` where that stays in the slice: one test, and bytes one by one at the slice's end alone.
 pub fn load64(s: &[u8], k: usize) -> u64
     ensures { λ r. ⌜ r ≡ wordFrom (bitIn (now (s .entry))) 64 k ⌝ }
 {
@@ -162,7 +162,7 @@ pub fn window_in(s: &[u8], b: Bits, i: usize, n: usize) -> u64
     slots64_in(s, b, i) % (1 << n)
 }
 
-// The bits from bit k on that the word at its byte has, low bit first: 57 at least, by one load with no test.
+// The bits from bit k on that the word at its byte has, low bit first: 57 at least, for at most 7 of its 64 stand before k. One load, no test.
 fn bits57_in(s: &[u8], k: usize) -> u64
     requires { ⌜ k / 8 + 8 ≤ length (now s) ⌝ }
     ensures { λ r. ⌜ r ≡ wordFrom (bitIn (now (s .entry))) (64 - k % 8) k ⌝ }

@@ -18,7 +18,7 @@ use Rattle.format.proofs.Put.{put-parts, length-put, none, then, named}
 use Rattle.measure.proofs.Sizes.{extract-length}
 use Rattle.nodes.specs.Body.{nodeBody, nodeFields}
 use Rattle.nodes.proofs.BodyLaws.{body-more, fields-more}
-use Rattle.body.specs.Added.{columnOf, Written}
+use Rattle.body.specs.Written.{columnOf, Written}
 use Rattle.write.specs.Nodes.{NodesTo}
 
 -- ---- fields

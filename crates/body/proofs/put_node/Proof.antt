@@ -2,7 +2,7 @@
 use native.Mathlib.Omega.{arith}
 use borrow.Author.Needs.{needs}
 use lib.ListN.{length-set}
-use Rattle.body.proofs.AddLaws.{ten-stores}
+use Rattle.body.proofs.KeptLaws.{ten-stores}
 use Rattle.body.proofs.put_node.Statement.{statement}
 use Rattle.body.proofs.put_node.Tie as tie
 

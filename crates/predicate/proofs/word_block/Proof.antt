@@ -7,7 +7,7 @@ use lib.Count.{trailingZeros, trailing-le}
 use Rattle.slots.specs.Source.{slotOf}
 use Rattle.slots.proofs.Reading.{slot-past}
 use Rattle.slots.proofs.Scan.{Hit}
-use Rattle.predicate.proofs.WordRuns.{first-row, found-word, found-on, found-run, end-near, end-after}
+use Rattle.predicate.proofs.WordRuns.{run-leaves, first-row, found-word, found-on, found-run, end-near, end-after}
 use Rattle.predicate.proofs.word_block.Statement.{statement}
 use Rattle.predicate.proofs.word_block.Tie as tie
 
@@ -29,7 +29,7 @@ returns-2 c =
     let f = c .run-end .ensures in
     let low = f .low in
     let near = in-word k in
-    (omega arith, f .high, found-on (k .before .pre .1 .1) refl (c .before .if2 .taken) refl f refl)
+    (omega arith, f .high, run-leaves (found-on (k .before .pre .1 .1) refl (c .before .if2 .taken) refl f) refl)
 
 -- so does the first row after it that is not kept
 end-in : (c : tie.Else2) →
@@ -43,7 +43,7 @@ returns-3 c =
     let fits = c .before .before .before .before .before .pre .1 .0 in
     let near = end-in c in
     let after = end-after f refl (c .if2 .left) in
-    (omega arith, omega arith, found-run f refl (c .if2 .left) (omega arith) refl)
+    (omega arith, omega arith, run-leaves (found-run f refl (c .if2 .left) (omega arith)) refl)
 
 pub word-block-spec : {M : Type 1} → statement M
 word-block-spec =

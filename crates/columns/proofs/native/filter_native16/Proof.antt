@@ -27,17 +27,30 @@ copy-rows-requires c κs =
     let h = t .before .before .before .before .before .before .pre .1 .1 in
     run-needs (t .before .loop .inv) (h .0) (h .1) (rw (c .before .before .a .given .1) at (t .next-block .ensures))
 
+pass-runs-requires : tie.Need-pass-runs-requires Inv-loop μ-loop
+pass-runs-requires c κs =
+    let k = c .before in
+    let t = k .before .before .before .before .before .before .before in
+    let h = t .before .before .before .before .before .before .pre in
+    let g = rw (k .before .before .before .before .before .a .given .1) at (t .next-block .ensures) in
+    let w = walk-more (t .before .loop .inv) (entries-cut _ _ _) (g .2) (k .before .before .copy-rows .ensures) in
+    (h .0, (w .step, (h .1 .1 .0, walk-fits (entries-cut _ _ _) w (h .1 .1 .1))))
+
 loop-less : tie.Need-loop-less Inv-loop μ-loop
 loop-less c =
-    let t = c .before .before .before .before .before .before .before in
-    let g = rw (c .before .before .before .before .before .a .given .1) at (t .next-block .ensures) in
-    falls (g .2)
+    let k = c .before .before .before .before .before in
+    let t = k .before .before .before .before .before .before .before in
+    let g = rw (k .before .before .before .before .before .a .given .1) at (t .next-block .ensures) in
+    let q = c .before .before .before .pass-runs .ensures in
+    omega (arith, falls (g .2), q .on, q .step .inside)
 
 loop-again : tie.Need-loop-again Inv-loop μ-loop
 loop-again c =
-    let t = c .before .before .before .before .before .before .before in
-    let g = rw (c .before .before .before .before .before .a .given .1) at (t .next-block .ensures) in
-    walk-more (t .before .loop .inv) (entries-cut _ _ _) (g .2) (c .before .before .copy-rows .ensures)
+    let k = c .before .before .before .before .before in
+    let t = k .before .before .before .before .before .before .before in
+    let g = rw (k .before .before .before .before .before .a .given .1) at (t .next-block .ensures) in
+    let w = walk-more (t .before .loop .inv) (entries-cut _ _ _) (g .2) (k .before .before .copy-rows .ensures) in
+    walk-on (entries-cut _ _ _) w (c .before .before .before .pass-runs .ensures)
 
 gather-word16-requires : tie.Need-gather-word16-requires Inv-loop μ-loop
 gather-word16-requires c κs =
@@ -102,6 +115,7 @@ filter-native16-spec =
     next-block-requires
     (λ c. search needs)
     copy-rows-requires
+    pass-runs-requires
     loop-less
     loop-again
     (λ c. search needs)

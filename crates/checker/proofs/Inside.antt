@@ -1,0 +1,176 @@
+-- Refusal 8 on a node that was read: its buffers can be read, and the kernels' answers are the definition's. Assumes nothing.
+use Prim.Native.Nat.{ℕ, zero, suc, _+_, _-_, _*_, _/_, _^_, _≤_, _<_}
+use mathlib.Core.Bool.{Bool, true, false, _&&_, false≢true}
+use mathlib.Core.List.{List, [], _∷_}
+use mathlib.Core.Path.{_≡_, refl, sym, ap, _∙_}
+use native.Mathlib.Nat.{mul-add}
+use native.Mathlib.Omega.{arith}
+use borrow.Author.Tests.{not-false, eq-eqb, ne-eqb}
+use lib.Dec.{ltb}
+use lib.ListN.{length}
+use Rattle.format.specs.declared.Kind.{Kind}
+use Rattle.format.specs.declared.Kind.the-variants.{Bytes32, Bytes64, Views, Lists32, Lists64, Runs, Union, Dictionary}
+use Rattle.format.specs.Bytes.{anyBelow, bytesFor}
+use Rattle.format.specs.Node.{tableStart, nodeCount, noBitmap, kindOf, kind, param, rows, kids, places, hasNoBitmap, child, Ancestor, ancestor, closed, oneLess, ancestors}
+use Rattle.format.specs.Verdict.{oneOf, firstSize, secondSize, badContent, empty, notClosed, wrongTree}
+use Rattle.content.specs.Numbers.{badOffsetsAt, badRangeAt, badKey, badValidKey, badRunsAt, badViewAt, Lengths}
+use Rattle.content.proofs.Fold.{or-left, or-right}
+use Rattle.content.proofs.Nodes.{offsets-at, lists-at, runs-at, ids-at, keys-at, valid-keys-at, views-at}
+use Rattle.pack.specs.declared.Node.{Node}
+use Rattle.pack.specs.Read.{nodeOf}
+use Rattle.checker.specs.Laid.{Laid}
+use Rattle.checker.proofs.Fits.{kind-read}
+use Rattle.checker.proofs.Passed.{param-passed, rows-passed, bitmap-passed, first-passed, second-passed}
+
+-- the children still to come of all open nodes: each node brings its own and takes one away, and at the end none is left
+total : List Ancestor → ℕ
+total [] = 0
+total (ancestor n k ∷ s) = k + total s
+
+total-closed : (s : List Ancestor) → total (closed s) ≡ total s
+unfolding total closed
+total-closed [] = refl
+total-closed (ancestor n zero ∷ s) = total-closed s ∙ omega arith
+total-closed (ancestor n (suc k) ∷ s) = refl
+
+total-less : (s : List Ancestor) → total s ≤ suc (total (oneLess s))
+unfolding total oneLess
+total-less [] = omega arith
+total-less (ancestor n zero ∷ s) = omega arith
+total-less (ancestor n (suc k) ∷ s) = omega arith
+
+module _ (b : List ℕ) where
+  total-step : (i : ℕ) → total (ancestors b (suc i)) ≡ kids b i + total (oneLess (ancestors b i))
+  unfolding total ancestors
+  total-step i = total-closed (ancestor i (kids b i) ∷ oneLess (ancestors b i))
+
+  total-on : (d i : ℕ) → total (ancestors b i) ≤ d + total (ancestors b (i + d))
+  total-on zero i = let e : i + zero ≡ i = omega arith in rw e (omega arith)
+  total-on (suc d) i =
+      let e : i + suc d ≡ suc i + d = omega arith in
+      rw e (omega (arith, total-on d (suc i), total-step i, total-less (ancestors b i)))
+
+  total-empty : (s : List Ancestor) → empty s ≡ true → total s ≡ 0
+  unfolding total empty
+  total-empty [] e = refl
+  total-empty (a ∷ s) e = absurd (false≢true e)
+
+  tree-ends : wrongTree b ≡ false → empty (ancestors b (nodeCount b)) ≡ true
+  unfolding wrongTree notClosed
+  tree-ends e = not-false _ (or-right (anyBelow (λ i. ltb 0 i && empty (ancestors b i)) (nodeCount b)) _ (or-left _ _ (or-left _ _ e)))
+
+  pub kids-inside : wrongTree b ≡ false → (i : ℕ) → i < nodeCount b → i + kids b i < nodeCount b
+  kids-inside e i l =
+      let q : suc i + (nodeCount b - suc i) ≡ nodeCount b = omega arith in
+      let z : total (ancestors b (suc i + (nodeCount b - suc i))) ≡ 0 = rw q (total-empty (ancestors b (nodeCount b)) (tree-ends e)) in
+      omega (arith, total-on (nodeCount b - suc i) (suc i), total-step i)
+
+-- a node that was read, with its kind and its child's rows
+pub record Looked (b : List ℕ) (i : ℕ) (n : Node) (k : Kind) (m : ℕ) : Type 0 where
+  pub laid : Laid b
+  pub inside : i < nodeCount b
+  pub read : n ≡ nodeOf b i
+  pub known : k ≡ kindOf (n .kind)
+  pub under : m ≡ rows b (child i)
+
+module _ {b : List ℕ} {i : ℕ} {n : Node} {k : Kind} {m : ℕ} (l : Looked b i n k m) where
+  pub kind-is : {K : Kind} → k ≡ K → kind b i ≡ K
+  kind-is e = kind-read b i (l .read) ∙ sym (l .known) ∙ e
+
+  table-inside : tableStart b ≤ length b
+  table-inside = omega (arith, l .laid .whole)
+
+  first-in : {K : Kind} → k ≡ K → n .«first_at» + firstSize K (n .param) (n .skip + n .rows) m ≤ length b
+  unfolding places
+  first-in e = rw (l .read, l .under, ← kind-is e) (omega (arith, table-inside, first-passed b i (l .inside) (l .laid .buffers)))
+
+  second-in : {K : Kind} → k ≡ K → n .«second_at» + secondSize K (n .skip + n .rows) (n .«second_length») ≤ length b
+  unfolding places
+  second-in e = rw (l .read, ← kind-is e) (omega (arith, table-inside, second-passed b i (l .inside) (l .laid .buffers)))
+
+  pub places-few : n .skip + n .rows ≤ 1_048_576
+  unfolding places
+  places-few = rw (l .read) (rows-passed b i (l .inside) (l .laid .rowed))
+
+  -- where each kind's numbers stand
+  pub offsets32-in : k ≡ Bytes32 → n .«first_at» + 4 * n .skip + 4 * n .rows + 4 ≤ length b
+  offsets32-in e = omega (arith, first-in e)
+
+  pub offsets64-in : k ≡ Bytes64 → n .«first_at» + 8 * n .skip + 8 * n .rows + 8 ≤ length b
+  offsets64-in e = omega (arith, first-in e)
+
+  pub lists32-in : k ≡ Lists32 → (n .«first_at» + 4 * n .skip + 4 * n .rows ≤ length b) × (n .«second_at» + 4 * n .skip + 4 * n .rows ≤ length b)
+  lists32-in e = (omega (arith, first-in e), omega (arith, second-in e))
+
+  pub lists64-in : k ≡ Lists64 → (n .«first_at» + 8 * n .skip + 8 * n .rows ≤ length b) × (n .«second_at» + 8 * n .skip + 8 * n .rows ≤ length b)
+  lists64-in e = (omega (arith, first-in e), omega (arith, second-in e))
+
+  pub ids-in : k ≡ Union → n .«first_at» + n .skip + n .rows ≤ length b
+  ids-in e = omega (arith, first-in e)
+
+  pub views-in : k ≡ Views → (t : ℕ) → t ≡ tableStart b → (n .«first_at» + 16 * n .skip + 16 * n .rows ≤ length b) × Lengths b (n .kids) (t + 40 * i + 48)
+  views-in e t q = (omega (arith, first-in e), record { inside = λ j h. omega (arith, l .laid .whole, ap (λ (x : Node). x .kids) (l .read), kids-inside b (l .laid .tree) i (l .inside)) })
+
+  pub runs-in : k ≡ Runs → (oneOf (2 ∷ 4 ∷ 8 ∷ []) (n .param) ≡ true) × (n .«first_at» + n .param * m ≤ length b)
+  runs-in e = (rw (l .read) (rw (kind-is e) at (param-passed b i (l .inside) (l .laid .fields))), first-in e)
+
+  -- the kernels' answers
+  pub nothing-is : {K : Kind} → k ≡ K → badContent K b i ≡ false → false ≡ badContent (kind b i) b i
+  nothing-is e f = rw (kind-is e) (sym f)
+
+  pub offsets32-is : k ≡ Bytes32 → badOffsetsAt 4 b (n .«first_at» + 4 * n .skip) (n .rows) (n .«second_length») ≡ badContent (kind b i) b i
+  unfolding badContent
+  offsets32-is e = rw (kind-is e, l .read) (offsets-at b i 4)
+
+  pub offsets64-is : k ≡ Bytes64 → badOffsetsAt 8 b (n .«first_at» + 8 * n .skip) (n .rows) (n .«second_length») ≡ badContent (kind b i) b i
+  unfolding badContent
+  offsets64-is e = rw (kind-is e, l .read) (offsets-at b i 8)
+
+  pub lists32-is : k ≡ Lists32 → anyBelow (badRangeAt 4 b (n .«first_at» + 4 * n .skip) (n .«second_at» + 4 * n .skip) m) (n .rows) ≡ badContent (kind b i) b i
+  unfolding badContent
+  lists32-is e = rw (kind-is e, l .read, l .under) (lists-at b i 4 (rows b i))
+
+  pub lists64-is : k ≡ Lists64 → anyBelow (badRangeAt 8 b (n .«first_at» + 8 * n .skip) (n .«second_at» + 8 * n .skip) m) (n .rows) ≡ badContent (kind b i) b i
+  unfolding badContent
+  lists64-is e = rw (kind-is e, l .read, l .under) (lists-at b i 8 (rows b i))
+
+  pub views-is : k ≡ Views → (t : ℕ) → t ≡ tableStart b → anyBelow (badViewAt b (n .«first_at» + 16 * n .skip) (n .kids) (t + 40 * i + 48)) (n .rows) ≡ badContent (kind b i) b i
+  unfolding badContent
+  views-is e t q = rw (kind-is e, l .read, q) (views-at b i (rows b i))
+
+  pub runs-is : k ≡ Runs → badRunsAt (n .param) b (n .«first_at») m (n .skip + n .rows) ≡ badContent (kind b i) b i
+  unfolding badContent places
+  runs-is e = rw (kind-is e, l .read, l .under) (runs-at b i)
+
+  pub ids-is : k ≡ Union → anyBelow (badKey 1 b (n .«first_at» + n .skip) (n .kids)) (n .rows) ≡ badContent (kind b i) b i
+  unfolding badContent
+  ids-is e = rw (kind-is e, l .read) (ids-at b i (rows b i))
+
+  pub keys-is : k ≡ Dictionary → {r : Bool} → r ≡ badContent Dictionary b i → r ≡ badContent (kind b i) b i
+  keys-is e q = rw (kind-is e) q
+
+  -- a dictionary's keys: where they stand, and the kernels' answers without a bitmap and with one
+  pub keys-in : k ≡ Dictionary → (oneOf (1 ∷ 2 ∷ 4 ∷ 8 ∷ []) (n .param) ≡ true) × (n .«first_at» + n .param * n .skip + n .param * n .rows ≤ length b)
+  keys-in e = (
+    rw (l .read) (rw (kind-is e) at (param-passed b i (l .inside) (l .laid .fields))),
+    omega (arith, first-in e, mul-add (n .param) (n .skip) (n .rows)),
+  )
+
+  has-bitmap : (n .«validity_at» ≡ noBitmap → ⊥) → hasNoBitmap b i ≡ false
+  unfolding hasNoBitmap
+  has-bitmap h = ne-eqb _ _ (rw (l .read) at h)
+
+  pub bits-in : (n .«validity_at» ≡ noBitmap → ⊥) → (8 * n .«validity_at» + n .skip + n .rows ≤ 8 * length b) × (n .skip + n .rows < 2 ^ 63)
+  unfolding places bytesFor
+  bits-in h =
+      let inside : n .«validity_at» + (n .skip + n .rows + 7) / 8 ≤ tableStart b = rw (l .read) (bitmap-passed b i (l .inside) (l .laid .buffers) (has-bitmap h)) in
+      (omega (arith, table-inside), omega (arith, places-few))
+
+  pub keys-are : n .«validity_at» ≡ noBitmap → anyBelow (badKey (n .param) b (n .«first_at» + n .param * n .skip) m) (n .rows) ≡ badContent Dictionary b i
+  unfolding badContent hasNoBitmap
+  keys-are h = rw (l .under, l .read) (keys-at b i (param b i) (rows b (child i)) (rows b i) (eq-eqb _ _ (rw (l .read) at h)))
+
+  pub valid-keys-are : (n .«validity_at» ≡ noBitmap → ⊥)
+      → anyBelow (badValidKey (n .param) b (n .«first_at» + n .param * n .skip) m (n .«validity_at») (n .skip)) (n .rows) ≡ badContent Dictionary b i
+  unfolding badContent
+  valid-keys-are h = rw (l .under, l .read) (valid-keys-at b i (param b i) (rows b (child i)) (rows b i) (has-bitmap h))
