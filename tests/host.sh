@@ -1,6 +1,6 @@
 #!/usr/bin/env bash
 # The port held to filter.rs and to a second reading of document 01 (host/), through its C entry points: the paper's cases, random and damaged packs,
-# pairs alike in the kept part, every small mask, masks around each boundary, verdicts; wrong ports that must be noticed; and the list that program
+# pairs alike in the kept part, every small mask, masks around each boundary, long masks, verdicts; wrong ports that must be noticed; and the list that program
 # `replay` runs, made again.
 # Where something needed is missing nothing is compared, and the one check says so. Each run counts as one check. Last line: 'N passed, M failed'.
 set -uo pipefail
@@ -62,10 +62,11 @@ read -r -a list < <(sed -n '1s/.*differ list \([0-9]* [0-9]*\) .*/\1/p' crates/r
   run alike $bin/differ alike 7 30000
   run exhaustive $bin/differ exhaustive 7
   run boundaries $bin/differ boundaries 7 1
+  run long $bin/differ long 7 2
 } &
 wait
 
-for name in paper random alike exhaustive boundaries verdicts faults list; do
+for name in paper random alike exhaustive boundaries long verdicts faults list; do
   last=$(tail -n 1 "$work/$name")
   sed "s/^/host: $name: /" "$work/$name"
   if [ "$(cat "$work/$name.status")" = 0 ] && [[ $last =~ ^[1-9][0-9]*\ passed,\ 0\ failed$ ]]; then

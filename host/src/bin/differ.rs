@@ -5,6 +5,7 @@
 //!     differ alike SEED COUNT     pairs of journals alike in the kept part, different elsewhere (demand 3)
 //!     differ exhaustive SLOTS     every mask of up to SLOTS slots, on columns of every kind, each skip from 0 to 9
 //!     differ boundaries SEED ROUNDS  masks around each boundary of length and count, on columns of every kind
+//!     differ long SEED ROUNDS     masks of 65,535 slots and more, few to nearly all picked, on columns of every kind
 //!     differ list SEED COUNT FOLDER  writes random calls and what they give, for the program `replay`, as FOLDER/stdin and stdout
 //!     differ paper                the paper's bench cases and refusal examples, and packs at its limits
 //!
@@ -247,6 +248,47 @@ fn boundaries(seed: u64, rounds: u64) -> Tally {
     tally
 }
 
+/// Where the port stores few row numbers by itself: from 65,536 slots on, with at most one in 64 picked.
+const LONG: [usize; 4] = [65_535, 65_536, 65_537, 66_000];
+
+/// The shape with run ends of 4 bytes where it has them of 2, which cannot count so many rows.
+fn widened(mut shape: Shape) -> Shape {
+    if shape.kind == RUNS {
+        shape.param = shape.param.max(4);
+    }
+    shape.kids = shape.kids.into_iter().map(widened).collect();
+    shape
+}
+
+/// Long masks: on columns of each kind, few rows picked, at and next to one in 64, and up to nearly all.
+fn long(seed: u64, rounds: u64) -> Tally {
+    let mut tally = Tally::default();
+    let port = port();
+    for round in 0..rounds {
+        let mut r = rng(seed, round);
+        for (i, shape) in few_shapes(&mut r).into_iter().map(widened).enumerate() {
+            let length = r.pick(&LONG);
+            let rows = length + r.pick(&[0, 0, 1, 20]);
+            let column = Maker::new(&mut r).column(&shape, rows, None);
+            let bytes = lay(&mut r, &column);
+            let journal = Journal::new(&bytes);
+            for count in [1, length / 64, length / 64 + 1, length / 10, length / 2, length * 95 / 100, length * 99 / 100] {
+                let way = r.pick(&[SPREADS - 1, SPREADS - 1, 2]);
+                let picks = spread_by(&mut r, way, length, count);
+                let mask = mask_pack(&mut r, &picks);
+                let name = format!("long {seed} round {round} shape {i}: {count} of {length}");
+                // the packs are not for reading
+                tally.case(&name, &[], || compare::mask_with_rust(&mask, &journal));
+                if let Some(port) = &port {
+                    tally.case(&name, &[], || compare::exact(port.as_ref(), &mut r, &mask, &bytes));
+                }
+            }
+        }
+    }
+    tally.report(&format!("long, seed {seed}, rounds {rounds}"));
+    tally
+}
+
 /// Calls for the program `replay`, each first compared with filter.rs and, where it is linked, with the port.
 fn list(seed: u64, count: u64, folder: &str) -> Tally {
     let mut tally = Tally::default();
@@ -304,15 +346,16 @@ fn main() -> ExitCode {
     let folder = words.get(3).map(String::as_str);
     let tallies = match (words.first().map(String::as_str), numbers.as_deref()) {
         (Some("list"), Some(&[seed, count])) if folder.is_some() => vec![list(seed, count, folder.unwrap())],
-        (None, _) => vec![paper(), random(1, 3000), alike(1, 1000), exhaustive(5), boundaries(1, 1)],
+        (None, _) => vec![paper(), random(1, 3000), alike(1, 1000), exhaustive(5), boundaries(1, 1), long(1, 1)],
         (Some("paper"), Some([])) => vec![paper()],
         (Some("random"), Some(&[seed, count])) => vec![random(seed, count)],
         (Some("alike"), Some(&[seed, count])) => vec![alike(seed, count)],
         (Some("exhaustive"), Some(&[slots @ 0..=16])) => vec![exhaustive(slots as usize)],
         (Some("boundaries"), Some(&[seed, rounds])) => vec![boundaries(seed, rounds)],
+        (Some("long"), Some(&[seed, rounds])) => vec![long(seed, rounds)],
         _ => {
             eprintln!("differ [paper | random SEED COUNT | alike SEED COUNT | exhaustive SLOTS (at most 16)");
-            eprintln!("        | boundaries SEED ROUNDS | list SEED COUNT FOLDER]");
+            eprintln!("        | boundaries SEED ROUNDS | long SEED ROUNDS | list SEED COUNT FOLDER]");
             return ExitCode::from(2);
         }
     };
