@@ -1,7 +1,7 @@
 /*
  * The C entry points of the proved filter. Link target/staticlib/libcapi.a ('rt staticlib capi').
  *
- * Packs, masks, routes, extracts and refusals are those of document 01. A slice is a pointer and then its length, in elements.
+ * docs/FORMAT.md says what packs, masks, routes, extracts and refusals are. A slice is a pointer and then its length, in elements.
  * Pointers are not null and aligned for their element, also where the length is 0. What is lent to be written (list, scratch,
  * output, answer) overlaps nothing else that is passed. Nothing is read or written past a length; nothing is allocated or kept.
  *

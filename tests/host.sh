@@ -1,5 +1,5 @@
 #!/usr/bin/env bash
-# The port held to filter.rs and to a second reading of document 01 (host/), through its C entry points: the paper's cases, random and damaged packs,
+# The port held to filter.rs and to a second reading of the specification (host/), through its C entry points: its own cases, random and damaged packs,
 # pairs alike in the kept part, every small mask, masks around each boundary, long masks, verdicts; wrong ports that must be noticed; and the list that program
 # `replay` runs, made again.
 # Where something needed is missing nothing is compared, and the one check says so. Each run counts as one check. Last line: 'N passed, M failed'.
@@ -21,11 +21,11 @@ missing() {
 lack=$(missing)
 if [ -n "$lack" ]; then
   echo "host: NOT COMPARED with filter.rs, no case was run; missing: $lack"
-  if grep -q '^## What rests on the papers alone where nothing is compared$' docs/DIFFERENCES.md; then
-    echo "host: NOT COMPARED: the one check below is that docs/DIFFERENCES.md says what then rests on the papers alone"
+  if grep -q '^## What rests on the specification alone where nothing is compared$' docs/DIFFERENCES.md; then
+    echo "host: NOT COMPARED: the one check below is that docs/DIFFERENCES.md says what then rests on the specification alone"
     echo "1 passed, 0 failed"; exit 0
   fi
-  echo "host: docs/DIFFERENCES.md does not say what rests on the papers alone"; echo "0 passed, 1 failed"; exit 1
+  echo "host: docs/DIFFERENCES.md does not say what rests on the specification alone"; echo "0 passed, 1 failed"; exit 1
 fi
 
 fail() { echo "host: $*"; echo "0 passed, 1 failed"; exit 1; }

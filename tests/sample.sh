@@ -1,5 +1,5 @@
 #!/usr/bin/env bash
-# The program `extract` tried as a user would: the sample, P1 and six against five of document 01, and files that are missing, empty, wrong or large.
+# The program `extract` tried as a user would: the sample, P1 and six against five of docs/FORMAT.md, and files that are missing, empty, wrong or large.
 # Needs the programs that the proofs' run built. Last line: 'N passed, M failed'.
 set -u
 cd "$(dirname "$0")/.."
@@ -20,7 +20,7 @@ cp sample/mask.pack sample/journal.pack "$work"
 same 'the sample' 'rows 11 of 40 route indices bytes 936' "$(extract)"
 same "the sample's extract, byte for byte" "$(sum sample/extract.pack)" "$(sum "$work/out.pack")"
 
-# P1 at width 4, whole bytes as the paper has them; then one slot more in the mask than the journal has rows
+# P1 at width 4, whole bytes as the specification has them; then one slot more in the mask than the journal has rows
 python3 - "$work" <<'PY'
 import sys
 sys.path.insert(0, "tools")

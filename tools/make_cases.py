@@ -2,7 +2,7 @@
 """make_cases.py [FOLDER]: writes the whole calls that program `cases` runs, and what it must print of them, as stdin and stdout into
 crates/cases/, or into FOLDER.
 
-What a call must give is made from document 01 alone: each extract is built from the rows that the paper says it has, with skip 0 and
+What a call must give is made from the specification (docs/FORMAT.md) alone: each extract is built from the rows that it says are kept, with skip 0 and
 nothing but zeros in between. The packs of a call have ones in all places that mean nothing, so that what should not show would."""
 import os
 import sys
@@ -67,7 +67,7 @@ FIVE = pack().native(4, [5, 6, 7, 8, 9])
 FOUR = pack().native(4, [1, 2, 3, 4])
 NINE_RUNS = pack().runs(2, 9, range(1, 10)).native(1, range(1, 10))
 P1 = Pack().native(4, [5, 8])
-# the paper's own bytes
+# the specification's own bytes
 assert P1.whole() == numbers(4, [5, 8, 2, 4, 2, 0, 0, NO_BITMAP, 0, 0, 0, 0, 8, 1, 2]) + MARK
 
 

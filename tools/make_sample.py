@@ -1,5 +1,5 @@
 #!/usr/bin/env python3
-"""make_sample.py [FOLDER]: writes the sample packs mask.pack, journal.pack and extract.pack (document 01, "Pack") into sample/, or into FOLDER.
+"""make_sample.py [FOLDER]: writes the sample packs mask.pack, journal.pack and extract.pack (docs/FORMAT.md, 3) into sample/, or into FOLDER.
 
 A day's journal of 40 hires by six cabs, the mask that picks the hires of one owner's cabs, and the extract that these two must give, built from the picked
 hires and not by filtering. Every byte is fixed: no clock, no chance."""

@@ -1,4 +1,4 @@
-"""Packs (document 01, "Pack") built column by column, parent first. A row is a value; None, a null whose entry is 0 or empty; or
+"""Packs (docs/FORMAT.md, 3) built column by column, parent first. A row is a value; None, a null whose entry is 0 or empty; or
 Null(entry), a null whose entry is that."""
 import struct
 

@@ -1,5 +1,5 @@
 #!/usr/bin/env python3
-"""show.py FILE..: prints each pack (document 01, "Pack") as a table, a struct's children side by side. A null is -.
+"""show.py FILE..: prints each pack (docs/FORMAT.md, 3) as a table, a struct's children side by side. A null is -.
 It looks at what it prints, and is no checker: a pack that it shows may still be refused."""
 import signal
 import struct

@@ -239,7 +239,7 @@ pub fn alike_by_port(port: &dyn Port, r: &mut Rng, pair: &Pair) -> Result<(), St
     same_bytes("lists", &one.list, &two.list)
 }
 
-/// A case of the paper: the line, and the bytes that it gives.
+/// A case of the specification: the line, and the bytes that it gives.
 pub fn paper_case(port: &dyn Port, case: &Case) -> Result<(), String> {
     let list = vec![0xFFFF_FFFF; case.list.unwrap_or(0)];
     let (scratch, output) = (vec![0xFF; case.scratch], vec![0xFF; case.output]);

@@ -1,4 +1,4 @@
-//! Document 01 read a second time, in Rust, apart from the definitions that the port is proved against: what each call must
+//! The specification (docs/FORMAT.md) read a second time, in Rust, apart from the definitions that the port is proved against: what each call must
 //! return. Plain loops over rows, no routes and no words, so that it shares no method with the port or with filter.rs.
 use crate::pack::*;
 
@@ -424,7 +424,7 @@ pub fn prepare(mask: &[u8], stated: Option<u64>, asked: bool, list: &[u32]) -> (
         Ok(picks) => {
             let entries = if asked { picks.entries() } else { vec![] };
             if list.len() < entries.len() {
-                // the paper lets 12 name the journal, here too
+                // the specification lets 12 name the journal, here too
                 Answer::Refused { number: 12, pack: Named::Journal }
             } else {
                 after[..entries.len()].copy_from_slice(&entries);

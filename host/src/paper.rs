@@ -1,4 +1,4 @@
-//! The bench cases and refusal examples of document 01, and packs at its limits, each with the answer that the paper gives.
+//! The bench cases and refusal examples of the specification (docs/FORMAT.md), and packs at its limits, each with the answer that it gives.
 use crate::pack::*;
 
 /// A call and what must come of it.

@@ -1,4 +1,4 @@
-//! The comparison must notice a wrong port: each one here is the model with one fault, among them the paper's misreadings and
+//! The comparison must notice a wrong port: each one here is the model with one fault, among them the specification's misreadings and
 //! worthless readers.
 use host::compare;
 use host::make::*;

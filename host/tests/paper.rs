@@ -1,4 +1,4 @@
-//! The model gives the paper's own answers, and a short run of each comparison with filter.rs agrees.
+//! The model gives the specification's own answers, and a short run of each comparison with filter.rs agrees.
 use host::port::Model;
 use host::{compare, make, paper};
 

@@ -1,4 +1,4 @@
-//! The stand-ins have the meanings that document 01 gives them.
+//! The stand-ins have the meanings that the specification gives them.
 use arrow_buffer::bit_util::{compress, compress_portable};
 use arrow_buffer::{BooleanBuffer, BooleanBufferBuilder, Buffer};
 use host::make::Rng;

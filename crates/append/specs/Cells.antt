@@ -1,9 +1,9 @@
 -- The bytes of rows, one row after another: entries of a width; zeros; and what the rows must be within. Assumes nothing.
 use Prim.Native.Nat.{ℕ, _+_, _-_, _*_, _^_, _≤_, _<_}
-use mathlib.Core.List.{List, map}
+use mathlib.Core.List.{List, [], _∷_, _++_, map}
 use lib.ListN.{length, replicate}
 use Rattle.format.specs.Bytes.{join, bytesAt, raised}
-use Rattle.format.specs.Rows.{Below}
+use Rattle.format.specs.Rows.{setRows, Below}
 
 -- n zeros, and those that raise a place to a multiple of 8
 unfoldable pub zeros : ℕ → List ℕ
@@ -19,6 +19,11 @@ entry w b first r = bytesAt b (first + w * r) w
 -- the entries of rows
 unfoldable pub entriesOf : ℕ → List ℕ → ℕ → List ℕ → List ℕ
 entriesOf w b first rs = join (map (entry w b first) rs)
+
+-- the rows at the set bits of words that follow each other, 64 rows each
+unfoldable pub wordRows : ℕ → List ℕ → List ℕ
+wordRows base [] = []
+wordRows base (x ∷ xs) = setRows base x ++ wordRows (base + 64) xs
 
 -- the rows are among the first so many rows, of which P holds
 pub record Among (P : ℕ → Type 0) (rs : List ℕ) : Type 0 where

@@ -14,7 +14,7 @@ ghost use Rattle.nodes.specs.Body.{nodeBody};
 ghost use Rattle.buffers.specs.Place.{rowsBy};
 ghost use Rattle.regions.specs.Region.{Given};
 ghost use Rattle.body.specs.Written.{columnOf, Chosen, Written};
-use measure::data::any_null;
+use kept_data::data::any_null;
 use node_body::put_buffers;
 use pack::read::child_rows;
 use pack::read::kind_of;

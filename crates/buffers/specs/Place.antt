@@ -1,4 +1,4 @@
--- Where a buffer of kept rows is put, from the place where the body ends ("Written"). Assumes nothing.
+-- Where a buffer of kept rows is put, from the place where the body ends (docs/FORMAT.md, 8). Assumes nothing.
 use Prim.Native.Nat.{ℕ, _+_}
 use mathlib.Core.List.{List, [], _++_}
 use mathlib.Core.Path.{_≡_}

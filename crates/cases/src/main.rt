@@ -1,4 +1,4 @@
-// Runs the whole calls that stand on standard input, those of document 01 (tools/make_cases.py).
+// Runs the whole calls that stand on standard input, the cases of docs/FORMAT.md and more of their kind (tools/make_cases.py).
 fn main() {
     let mut text = io::large_buffer();
     let n = io::read_full(0, &mut text);

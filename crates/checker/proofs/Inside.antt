@@ -14,7 +14,7 @@ use Rattle.format.specs.Bytes.{anyBelow, bytesFor}
 use Rattle.format.specs.Node.{tableStart, nodeCount, noBitmap, kindOf, kind, param, rows, kids, places, hasNoBitmap, child, Ancestor, ancestor, closed, oneLess, ancestors}
 use Rattle.format.specs.Verdict.{oneOf, firstSize, secondSize, badContent, empty, notClosed, wrongTree}
 use Rattle.content.specs.Numbers.{badOffsetsAt, badRangeAt, badKey, badValidKey, badRunsAt, badViewAt, Lengths}
-use Rattle.content.proofs.Fold.{or-left, or-right}
+use Rattle.format.proofs.Accepted.{or-left, or-right}
 use Rattle.content.proofs.Nodes.{offsets-at, lists-at, runs-at, ids-at, keys-at, valid-keys-at, views-at}
 use Rattle.pack.specs.declared.Node.{Node}
 use Rattle.pack.specs.Read.{nodeOf}

@@ -18,7 +18,7 @@ use Rattle.format.specs.Verdict.{wrongSize, wrongTable, layout, badFields, wron
 use Rattle.format.proofs.Laws.{any-none}
 use Rattle.pack.specs.declared.Node.{Node}
 use Rattle.pack.specs.Read.{nodeOf}
-use Rattle.content.proofs.Fold.{or-left, or-right, and-right}
+use Rattle.format.proofs.Accepted.{or-left, or-right, and-right}
 
 -- a product of two 32-bit numbers leaves room for a third
 pub product-fits : (p n : ℕ) → p < 2 ^ 32 → n < 2 ^ 32 → p * n + 2 ^ 32 ≤ 2 ^ 64

@@ -1,11 +1,11 @@
 // Entries of kept rows taken straight from the mask, between two blocks of a selection. Asking for a block costs as much as the rows of a scattered
-// word, or a run of a hundred bytes; so after a block that was a word the words behind it are taken here, in one loop, and after a run the runs.
-ghost use Prim.Native.Nat.{_+_, _≤_};
+// word, or a run of a hundred bytes; so after a block that was a word the words behind it are taken here, and after a run the runs.
+ghost use Prim.Native.Nat.{_+_, _*_, _≤_};
 ghost use lib.ListN.{length};
+ghost use Rattle.slots.specs.Source.{slotOf, Lies};
 ghost use Rattle.predicate.specs.Selection.{InStep, Readable, keptBy, picksOn};
 ghost use Rattle.append.specs.Cells.{entriesOf, Entries};
-ghost use Rattle.columns.specs.Words.{Passed};
-use append::entries;
+ghost use Rattle.columns.specs.Words.{Ahead, Passed};
 use predicate::Cursor;
 use predicate::Selection;
 use slots::Bits;
@@ -16,280 +16,33 @@ pub struct Taken {
     pub cur: Cursor,
 }
 
-// The entries of 1, 2, 4, 8, 16, 32 bytes of the kept rows from a word's start on, word after word, up to one that goes better as runs or is
-// among the last two. None are taken where the selection does not read the mask.
-pub fn pass_words1(
-    out: &mut [u8],
-    at: usize,
-    journal: &[u8],
-    first: usize,
-    sel: Selection,
-    s: &[u8],
-    mask: Bits,
-    list: &[u32],
-    cur: Cursor,
-) -> Taken
-    requires { ⌜ Readable sel (now s) mask ⌝ }
-    requires { ⌜ InStep sel (keptBy sel (now s) mask) (mask .len) (now list) cur ⌝ }
-    requires { ⌜ Entries 1 (now journal) first (mask .len) ⌝ }
-    requires { ⌜ at + length (entriesOf 1 (now journal) first (picksOn (keptBy sel (now s) mask) (mask .len) (cur .place))) ≤ length (now out) ⌝ }
-    ensures { λ r. ⌜ Passed (entriesOf 1 (now (journal .entry)) first) sel (keptBy sel (now (s .entry)) mask) (mask .len) (now (list .entry)) cur (now (out .entry)) at (now (out .exit)) (r .next) (r .cur) ⌝ }
+// So many words of the mask are read before the entries of their rows are copied. Each of the two loops then has few enough values for the
+// registers, and little stands between the rows of one word and those of the next: at 10 % kept that is most of the time. 8 to 64 words do alike.
+const STRETCH: usize = 16;
+
+// The mask's words from word `from` on, at the front of `words`, as many as it holds, up to one that goes better as runs or is among the last two:
+// how many.
+fn words_ahead(s: &[u8], mask: Bits, from: usize, words: &mut [u64]) -> usize
+    requires { ⌜ Lies (now s) mask ⌝ }
+    requires { ⌜ 64 * from ≤ mask .len ⌝ }
+    ensures { λ r. ⌜ Ahead (slotOf (now (s .entry)) mask) (mask .len) from (now (words .exit)) r ⌝ }
 {
-    if !predicate::lazy(sel) {
-        return Taken { next: at, cur };
-    }
-    let place = cur.place;
-    if place % 64 != 0 {
-        return Taken { next: at, cur };
-    }
     let len = mask.len;
-    let index = cur.index;
-    let mut here = at;
-    let mut w = place / 64;
-    while 64 * w + 128 <= len {
-        let x = slots::word_in(s, mask, w);
+    let mut n: usize = 0;
+    while (n < words.len()) & (64 * (from + n) + 128 <= len) {
+        let x = slots::word_in(s, mask, from + n);
         if predicate::as_runs(x) {
             break;
         }
-        here = entries::gather_word1(out, here, journal, first, 64 * w, x);
-        w += 1;
+        words[n] = x;
+        n += 1;
     }
-    Taken {
-        next: here,
-        cur: Cursor {
-            place: 64 * w,
-            index,
-        },
-    }
+    n
 }
 
-pub fn pass_words2(
-    out: &mut [u8],
-    at: usize,
-    journal: &[u8],
-    first: usize,
-    sel: Selection,
-    s: &[u8],
-    mask: Bits,
-    list: &[u32],
-    cur: Cursor,
-) -> Taken
-    requires { ⌜ Readable sel (now s) mask ⌝ }
-    requires { ⌜ InStep sel (keptBy sel (now s) mask) (mask .len) (now list) cur ⌝ }
-    requires { ⌜ Entries 2 (now journal) first (mask .len) ⌝ }
-    requires { ⌜ at + length (entriesOf 2 (now journal) first (picksOn (keptBy sel (now s) mask) (mask .len) (cur .place))) ≤ length (now out) ⌝ }
-    ensures { λ r. ⌜ Passed (entriesOf 2 (now (journal .entry)) first) sel (keptBy sel (now (s .entry)) mask) (mask .len) (now (list .entry)) cur (now (out .entry)) at (now (out .exit)) (r .next) (r .cur) ⌝ }
-{
-    if !predicate::lazy(sel) {
-        return Taken { next: at, cur };
-    }
-    let place = cur.place;
-    if place % 64 != 0 {
-        return Taken { next: at, cur };
-    }
-    let len = mask.len;
-    let index = cur.index;
-    let mut here = at;
-    let mut w = place / 64;
-    while 64 * w + 128 <= len {
-        let x = slots::word_in(s, mask, w);
-        if predicate::as_runs(x) {
-            break;
-        }
-        here = entries::gather_word2(out, here, journal, first, 64 * w, x);
-        w += 1;
-    }
-    Taken {
-        next: here,
-        cur: Cursor {
-            place: 64 * w,
-            index,
-        },
-    }
-}
-
-pub fn pass_words4(
-    out: &mut [u8],
-    at: usize,
-    journal: &[u8],
-    first: usize,
-    sel: Selection,
-    s: &[u8],
-    mask: Bits,
-    list: &[u32],
-    cur: Cursor,
-) -> Taken
-    requires { ⌜ Readable sel (now s) mask ⌝ }
-    requires { ⌜ InStep sel (keptBy sel (now s) mask) (mask .len) (now list) cur ⌝ }
-    requires { ⌜ Entries 4 (now journal) first (mask .len) ⌝ }
-    requires { ⌜ at + length (entriesOf 4 (now journal) first (picksOn (keptBy sel (now s) mask) (mask .len) (cur .place))) ≤ length (now out) ⌝ }
-    ensures { λ r. ⌜ Passed (entriesOf 4 (now (journal .entry)) first) sel (keptBy sel (now (s .entry)) mask) (mask .len) (now (list .entry)) cur (now (out .entry)) at (now (out .exit)) (r .next) (r .cur) ⌝ }
-{
-    if !predicate::lazy(sel) {
-        return Taken { next: at, cur };
-    }
-    let place = cur.place;
-    if place % 64 != 0 {
-        return Taken { next: at, cur };
-    }
-    let len = mask.len;
-    let index = cur.index;
-    let mut here = at;
-    let mut w = place / 64;
-    while 64 * w + 128 <= len {
-        let x = slots::word_in(s, mask, w);
-        if predicate::as_runs(x) {
-            break;
-        }
-        here = entries::gather_word4(out, here, journal, first, 64 * w, x);
-        w += 1;
-    }
-    Taken {
-        next: here,
-        cur: Cursor {
-            place: 64 * w,
-            index,
-        },
-    }
-}
-
-pub fn pass_words8(
-    out: &mut [u8],
-    at: usize,
-    journal: &[u8],
-    first: usize,
-    sel: Selection,
-    s: &[u8],
-    mask: Bits,
-    list: &[u32],
-    cur: Cursor,
-) -> Taken
-    requires { ⌜ Readable sel (now s) mask ⌝ }
-    requires { ⌜ InStep sel (keptBy sel (now s) mask) (mask .len) (now list) cur ⌝ }
-    requires { ⌜ Entries 8 (now journal) first (mask .len) ⌝ }
-    requires { ⌜ at + length (entriesOf 8 (now journal) first (picksOn (keptBy sel (now s) mask) (mask .len) (cur .place))) ≤ length (now out) ⌝ }
-    ensures { λ r. ⌜ Passed (entriesOf 8 (now (journal .entry)) first) sel (keptBy sel (now (s .entry)) mask) (mask .len) (now (list .entry)) cur (now (out .entry)) at (now (out .exit)) (r .next) (r .cur) ⌝ }
-{
-    if !predicate::lazy(sel) {
-        return Taken { next: at, cur };
-    }
-    let place = cur.place;
-    if place % 64 != 0 {
-        return Taken { next: at, cur };
-    }
-    let len = mask.len;
-    let index = cur.index;
-    let mut here = at;
-    let mut w = place / 64;
-    while 64 * w + 128 <= len {
-        let x = slots::word_in(s, mask, w);
-        if predicate::as_runs(x) {
-            break;
-        }
-        here = entries::gather_word8(out, here, journal, first, 64 * w, x);
-        w += 1;
-    }
-    Taken {
-        next: here,
-        cur: Cursor {
-            place: 64 * w,
-            index,
-        },
-    }
-}
-
-pub fn pass_words16(
-    out: &mut [u8],
-    at: usize,
-    journal: &[u8],
-    first: usize,
-    sel: Selection,
-    s: &[u8],
-    mask: Bits,
-    list: &[u32],
-    cur: Cursor,
-) -> Taken
-    requires { ⌜ Readable sel (now s) mask ⌝ }
-    requires { ⌜ InStep sel (keptBy sel (now s) mask) (mask .len) (now list) cur ⌝ }
-    requires { ⌜ Entries 16 (now journal) first (mask .len) ⌝ }
-    requires { ⌜ at + length (entriesOf 16 (now journal) first (picksOn (keptBy sel (now s) mask) (mask .len) (cur .place))) ≤ length (now out) ⌝ }
-    ensures { λ r. ⌜ Passed (entriesOf 16 (now (journal .entry)) first) sel (keptBy sel (now (s .entry)) mask) (mask .len) (now (list .entry)) cur (now (out .entry)) at (now (out .exit)) (r .next) (r .cur) ⌝ }
-{
-    if !predicate::lazy(sel) {
-        return Taken { next: at, cur };
-    }
-    let place = cur.place;
-    if place % 64 != 0 {
-        return Taken { next: at, cur };
-    }
-    let len = mask.len;
-    let index = cur.index;
-    let mut here = at;
-    let mut w = place / 64;
-    while 64 * w + 128 <= len {
-        let x = slots::word_in(s, mask, w);
-        if predicate::as_runs(x) {
-            break;
-        }
-        here = entries::gather_word16(out, here, journal, first, 64 * w, x);
-        w += 1;
-    }
-    Taken {
-        next: here,
-        cur: Cursor {
-            place: 64 * w,
-            index,
-        },
-    }
-}
-
-pub fn pass_words32(
-    out: &mut [u8],
-    at: usize,
-    journal: &[u8],
-    first: usize,
-    sel: Selection,
-    s: &[u8],
-    mask: Bits,
-    list: &[u32],
-    cur: Cursor,
-) -> Taken
-    requires { ⌜ Readable sel (now s) mask ⌝ }
-    requires { ⌜ InStep sel (keptBy sel (now s) mask) (mask .len) (now list) cur ⌝ }
-    requires { ⌜ Entries 32 (now journal) first (mask .len) ⌝ }
-    requires { ⌜ at + length (entriesOf 32 (now journal) first (picksOn (keptBy sel (now s) mask) (mask .len) (cur .place))) ≤ length (now out) ⌝ }
-    ensures { λ r. ⌜ Passed (entriesOf 32 (now (journal .entry)) first) sel (keptBy sel (now (s .entry)) mask) (mask .len) (now (list .entry)) cur (now (out .entry)) at (now (out .exit)) (r .next) (r .cur) ⌝ }
-{
-    if !predicate::lazy(sel) {
-        return Taken { next: at, cur };
-    }
-    let place = cur.place;
-    if place % 64 != 0 {
-        return Taken { next: at, cur };
-    }
-    let len = mask.len;
-    let index = cur.index;
-    let mut here = at;
-    let mut w = place / 64;
-    while 64 * w + 128 <= len {
-        let x = slots::word_in(s, mask, w);
-        if predicate::as_runs(x) {
-            break;
-        }
-        here = entries::gather_word32(out, here, journal, first, 64 * w, x);
-        w += 1;
-    }
-    Taken {
-        next: here,
-        cur: Cursor {
-            place: 64 * w,
-            index,
-        },
-    }
-}
-
-// The same at any width.
-pub fn pass_words_any(
+// The entries of the kept rows from a word's start on, word after word, up to one that goes better as runs or is among the last two. None are
+// taken where the selection does not read the mask.
+pub fn pass_words(
     out: &mut [u8],
     at: usize,
     journal: &[u8],
@@ -314,17 +67,17 @@ pub fn pass_words_any(
     if place % 64 != 0 {
         return Taken { next: at, cur };
     }
-    let len = mask.len;
     let index = cur.index;
     let mut here = at;
     let mut w = place / 64;
-    while 64 * w + 128 <= len {
-        let x = slots::word_in(s, mask, w);
-        if predicate::as_runs(x) {
+    let mut words = [0u64; STRETCH];
+    loop {
+        let n = words_ahead(s, mask, w, &mut words);
+        if n == 0 {
             break;
         }
-        here = entries::gather_word_any(out, here, journal, first, width, 64 * w, x);
-        w += 1;
+        here = gather::gather_words(out, here, journal, first, width, 64 * w, &words[..n]);
+        w += n;
     }
     Taken {
         next: here,
@@ -370,7 +123,7 @@ pub fn pass_runs(
         if run.to < run.from + SHORT {
             break;
         }
-        here = entries::copy_rows(out, here, journal, first, width, run.from, run.to);
+        here = gather::copy_rows(out, here, journal, first, width, run.from, run.to);
         place = run.to;
     }
     Taken {

@@ -2,26 +2,12 @@
 --     any-start, any-more, any-end     before the first turn; a turn, `bad | p i`; after the last
 --     any-ext, any-never               the same by other tests; by tests that never hold
 --     any-front, any-and               the first test by itself; a second test beside each
---     or-left, or-right, and-right     what a test tells that came out false
 use Prim.Native.Nat.{ℕ, zero, suc, _+_, _≤_, _<_}
-use mathlib.Core.Bool.{Bool, true, false, _&&_, _||_, and-false, or-false, or-assoc}
+use mathlib.Core.Bool.{Bool, false, _&&_, _||_, and-false, or-false, or-assoc}
 use mathlib.Core.Path.{_≡_, refl, sym, ap₂}
 use native.Mathlib.Omega.{arith}
 use Rattle.format.specs.Bytes.{anyBelow}
-
-pub or-left : (a b : Bool) → (a || b) ≡ false → a ≡ false
-or-left true b e = e
-or-left false b e = refl
-
-pub or-right : (a b : Bool) → (a || b) ≡ false → b ≡ false
-or-right true true e = e
-or-right true false e = refl
-or-right false b e = e
-
-pub and-right : (a b : Bool) → (a && b) ≡ false → a ≡ true → b ≡ false
-and-right true b e h = e
-and-right false true e h = sym h
-and-right false false e h = refl
+use Rattle.format.proofs.Accepted.{or-left, or-right}
 
 pub any-start : (p : ℕ → Bool) → false ≡ anyBelow p 0
 unfolding anyBelow

@@ -12,7 +12,8 @@ use lib.Bits.{bitAnd, bitOr, and-le-l, and-le-r, and-self, and-block, or-lt, or-
 use lib.Dec.{leb, ltb}
 use Rattle.format.specs.Bytes.{le, anyBelow, negative}
 use Rattle.content.specs.Numbers.{number, falls, stalls, badOffsetsAt, badRangeAt, badRunsAt, startAt, badViewAt}
-use Rattle.content.proofs.Fold.{or-left, or-right, any-front, any-more}
+use Rattle.format.proofs.Accepted.{or-left, or-right}
+use Rattle.content.proofs.Fold.{any-front, any-more}
 use Rattle.content.proofs.Tests.{wrapped, view-is}
 
 -- the top bit of numbers that are joined

@@ -1,4 +1,4 @@
-// The program `extract`: mask.pack and journal.pack of the working directory in, out.pack and one line out (document 01, "Bench cases").
+// The program `extract`: mask.pack and journal.pack of the working directory in, out.pack and one line out (docs/FORMAT.md, 10).
 use format::Answer;
 use libc::STDOUT_FILENO;
 ghost use Prim.Native.Nat.{_≤_};
@@ -9,7 +9,7 @@ const FILE_LIMIT: usize = 16_384;
 
 const FILE_ROOM: usize = 16_385;
 
-// Lent to the filter, as document 01 says.
+// Lent to the filter, as docs/FORMAT.md says (10).
 const OUTPUT_ROOM: usize = 32_768;
 
 const SCRATCH_ROOM: usize = 16_384;

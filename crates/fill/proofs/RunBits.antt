@@ -7,7 +7,8 @@ use lib.ListN.{getD}
 use Rattle.format.specs.Node.{nodeCount, rows}
 use Rattle.format.specs.Accepted.{Sound}
 use Rattle.slots.specs.declared.Bits.{Bits}
-use Rattle.slots.specs.Source.{slotOf, anyIn}
+use Rattle.slots.specs.Source.{slotOf}
+use Rattle.scan.specs.Asked.{anyIn}
 use Rattle.nesting.specs.Rows.{keeps, picksOf, edge, Table, AtRuns, RootRuns}
 use Rattle.nesting.proofs.ByKind.{of-runs, kind-at}
 use Rattle.nesting.proofs.RunEdges.{runs-are, runs-small, edge-rises, keeps-picked}

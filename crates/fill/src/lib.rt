@@ -107,9 +107,9 @@ fn runs_byte(
         let hi = end_edge(journal, table, i, r, len);
         // A run that is one word of the mask is asked without a call.
         let some = if (hi - lo <= 57) & (lo + 64 <= len) {
-            slots::any_short(mask, bits, lo, hi)
+            scan::any_short(mask, bits, lo, hi)
         } else {
-            slots::any_within(mask, bits, lo, hi)
+            scan::any_within(mask, bits, lo, hi)
         };
         x += (some as u8) << (r - from);
         lo = hi;

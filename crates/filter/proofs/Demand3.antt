@@ -1,20 +1,16 @@
--- Demand 3 of the public call: two calls of `filter` whose masks pick the same rows, and whose journals are alike in the kept part, answer
--- the same and leave the same output, whatever else the two journals hold. Assumes nothing.
-use Prim.Native.Nat.{ℕ, _≤_}
-use mathlib.Core.Bool.{Bool, true, false}
+-- Demand 3 of the public call: two calls of `filter` whose masks pick the same rows, and whose journals are alike in the kept part, end alike,
+-- whatever else the two journals hold. The premises (`Alike`) and the conclusion (`Same`) are those of format/proofs/Demand3.antt; crate `witness`
+-- has calls that meet the premises. Assumes nothing.
+use Prim.Native.Nat.{ℕ}
+use mathlib.Core.Bool.{Bool}
 use mathlib.Core.List.{List}
-use mathlib.Core.Path.{_≡_}
 use borrow.Fn.Kinds.{Dens, resT, endedOf}
 use contract.Lifetimes.{Lfts}
 use denote.Triple.Clauses.{AtExit}
-use lib.ListN.{length, take}
 use Rattle.format.specs.declared.Answer.{Answer}
-use Rattle.format.specs.Node.{rows}
-use Rattle.format.specs.Mask.{picks, maskLength, entries}
-use Rattle.format.specs.Verdict.{maskVerdict, journalVerdict}
-use Rattle.format.specs.Kept.{columns, keptPart}
-use Rattle.format.specs.Answer.{Call, callOf, statedIf, Returned, listShort, scratchShort, refusalOf, unrefused}
+use Rattle.format.specs.Answer.{Call, callOf, statedIf, Returned}
 use Rattle.format.proofs.Demand3 as format
+use Rattle.format.proofs.Demand3.{Alike, Seen, Same}
 use Rattle.filter.proofs.filter.Kinds as has
 use Rattle.filter.proofs.filter.Reads as promise
 
@@ -56,55 +52,18 @@ of-contract κs a r s e =
       ensures = e;
     }
 
--- accepted packs, the mask not longer than the journal, list and scratch not short
-pub record Allowed (f : Filtered) : Type 0 where
-  pub mask : maskVerdict (f .mask) ≡ 0
-  pub journal : journalVerdict (f .journal) ≡ 0
-  pub long : maskLength (f .mask) ≤ rows (f .journal) 0
-  pub list : listShort (call f) ≡ false
-  pub scratch : scratchShort (call f) ≡ false
+-- what its caller sees
+abbrev pub seen : (f : Filtered) → Seen (λ a. a) (call f)
+seen f =
+    record {
+      told = f .answer;
+      output = f .outputAfter;
+      list = f .listAfter;
+      tells = f .ensures .answered;
+      written = f .ensures .written;
+      listed = f .ensures .listed;
+    }
 
--- the masks pick the same rows of as many slots, the journals have the same columns and the same kept part, and the outputs hold the same
--- before, with the same count stated
-pub record SameKept (f g : Filtered) : Type 0 where
-  pub slots : maskLength (f .mask) ≡ maskLength (g .mask)
-  pub picked : picks (f .mask) ≡ picks (g .mask)
-  pub columned : columns (f .journal) ≡ columns (g .journal)
-  pub kept : keptPart (f .journal) (picks (f .mask)) ≡ keptPart (g .journal) (picks (g .mask))
-  pub states : f .states ≡ g .states
-  pub stated : f .stated ≡ g .stated
-  pub output : f .output ≡ g .output
-
-module _ (f g : Filtered) (a : Allowed f) (b : Allowed g) (s : SameKept f g) where
-  alike : format.Alike (call f) (call g)
-  alike =
-      record {
-        maskC = a .mask;
-        maskD = b .mask;
-        journalC = a .journal;
-        journalD = b .journal;
-        oneLength = s .slots;
-        samePicks = s .picked;
-        longC = a .long;
-        longD = b .long;
-        sameColumns = s .columned;
-        sameKept = s .kept;
-        listC = a .list;
-        listD = b .list;
-        scratchC = a .scratch;
-        scratchD = b .scratch;
-        sameOutput = s .output;
-        sameStated = rw (s .states, s .stated);
-      }
-
-  same : format.SameReturn (call f) (call g) (f .answer) (g .answer) (f .outputAfter) (g .outputAfter) (f .listAfter) (g .listAfter)
-  same = format.demand3-returned (call f) (call g) alike (f .ensures) (g .ensures)
-
-  -- the same answer, and every byte of the output: the extract's length and bytes, or the slip and an output as it was
-  pub demand3 : (f .answer ≡ g .answer) × (f .outputAfter ≡ g .outputAfter)
-  demand3 = (same .answers, same .outputs)
-
-  -- and the entries, where both store a list
-  pub demand3-list : f .asked ≡ true → g .asked ≡ true → refusalOf (call f) ≡ unrefused
-      → take (length (entries (f .mask))) (f .listAfter) ≡ take (length (entries (g .mask))) (g .listAfter)
-  demand3-list = same .lists
+-- `call f` holds a count only if one is stated: two calls that state none may be passed any two numbers in its place
+pub demand3 : (f g : Filtered) → Alike (call f) (call g) → Same (seen f) (seen g)
+demand3 f g h = format.demand3 (call f) (call g) h (seen f) (seen g)

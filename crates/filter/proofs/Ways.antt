@@ -8,6 +8,7 @@ use borrow.Author.Tests.{lt-ltb, le-ltb, ltb-false}
 use lib.Dec.{ltb}
 use lib.ListN.{length, drop, replicate, length-replicate}
 use Rattle.format.specs.declared.Route.{Route}
+use Rattle.format.specs.declared.Pack.{Pack}
 use Rattle.format.specs.declared.Pack.the-variants.{Mask, Journal}
 use Rattle.format.specs.declared.Answer.{Answer}
 use Rattle.format.specs.declared.Answer.the-variants.{Done, Refused}
@@ -18,7 +19,8 @@ use Rattle.format.specs.Mask.{count, maskLength, picks, entries}
 use Rattle.format.specs.Verdict.{maskVerdict, journalVerdict, packLimit}
 use Rattle.format.specs.Write.{extract}
 use Rattle.format.specs.Accepted.{Sound}
-use Rattle.format.specs.Answer.{Stated, unstated, Call, callOf, Returned, Refusal, unrefused, refusedBy, refusalOf, answer, answerAt, outputAfter, listAfter, scratchAfter}
+use Rattle.format.specs.Refusal.{Refusal, unrefused, refusedBy}
+use Rattle.format.specs.Answer.{Stated, unstated, Call, callOf, Returned, refusalOf, answer, answerAt, outputAfter, listAfter, scratchAfter}
 use Rattle.format.specs.Answer.{wrongCount, tooLong, listShort, scratchShort, outputShort, extractOf, stores, scratchNeeded}
 use Rattle.format.proofs.Accepted.{sound}
 use Rattle.format.proofs.Returns.{returned-refused, returned-done, mask-refused, count-refused, journal-refused, length-refused, list-refused, scratch-refused, output-refused, not-refused}
@@ -47,7 +49,7 @@ module _ (m j : List ℕ) (st : Stated) (asked : Bool) (list scratch output : Li
   unfolding refusalOf wrongCount tooLong listShort scratchShort extractOf
   same-refusal = rw right
 
-  same-answer : (f : Refusal) → answerAt f (callOf m j unstated asked list scratch output) ≡ answerAt f (callOf m j st asked list scratch output)
+  same-answer : (f : Refusal Pack) → answerAt f (callOf m j unstated asked list scratch output) ≡ answerAt f (callOf m j st asked list scratch output)
   unfolding answerAt extractOf
   same-answer unrefused = refl
   same-answer (refusedBy n p) = refl

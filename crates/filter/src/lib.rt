@@ -23,7 +23,7 @@ use prepare::wrong_count;
 use select::select_and_write;
 use slots::Bits;
 
-// An extract of more bytes than a pack may have is refused ("Pack": at most 16,777,216 bytes).
+// An extract of more bytes than a pack may have is refused (docs/FORMAT.md, 3.1: at most 16,777,216 bytes).
 const PACK_LIMIT: usize = 16_777_216;
 
 // The answer once there is room for everything: list, scratch and extract.

@@ -1,4 +1,4 @@
--- The bench cases marked P, and each refusal's example, as one table proved by one statement, by computation ("Bench cases", "Refusal slips"). Assumes nothing.
+-- The bench cases marked P, and each refusal's example, as one table proved by one statement, by computation (docs/FORMAT.md, 4, 6, 8 and 11). Assumes nothing.
 use Prim.Native.Nat.{ℕ, suc}
 use mathlib.Core.Path.{_≡_, refl, ap₂}
 use mathlib.Core.Bool.{Bool, true, false, _&&_, false≢true, and-eq-true-iff}
@@ -24,20 +24,21 @@ use Rattle.format.specs.Mask.{byRoute}
 use Rattle.format.specs.Kept as Kept
 use Rattle.format.specs.Write as Write
 use Rattle.format.specs.Write.{numbers}
+use Rattle.format.specs.Refusal as Refusals
 use Rattle.format.specs.Answer as Answers
 use Rattle.format.specs.Answer.{Call, Stated, unstated, stated, answer, outputAfter, listAfter, scratchAfter}
 use Rattle.format.proofs.Demand3.{Alike}
 
 -- a pack from its body, its nodes' fields, and the trailer's rows
-pack : List ℕ → List (List ℕ) → ℕ → List ℕ
+unfoldable pub pack : List ℕ → List (List ℕ) → ℕ → List ℕ
 pack body nodes rows = padded body ++ join (map (numbers 4) nodes) ++ numbers 4 (length (padded body) ∷ length nodes ∷ rows ∷ mark ∷ [])
 
 -- a node by kind, param, rows, skip, kids, and the places of its bitmap and its first buffer; it has no second buffer
-node : ℕ → ℕ → ℕ → ℕ → ℕ → ℕ → ℕ → List ℕ
+unfoldable pub node : ℕ → ℕ → ℕ → ℕ → ℕ → ℕ → ℕ → List ℕ
 node kind param rows skip kids validity first = kind ∷ param ∷ rows ∷ skip ∷ kids ∷ validity ∷ first ∷ 0 ∷ 0 ∷ 0 ∷ []
 
 -- a mask of n slots and no null; a column of numbers of 4 bytes; of texts, by their offsets; runs of such numbers
-maskOf : ℕ → ℕ → List ℕ
+unfoldable pub maskOf : ℕ → ℕ → List ℕ
 maskOf n bits = pack (bits ∷ []) (node 1 0 n 0 0 noBitmap 0 ∷ []) n
 
 natives : List ℕ → List ℕ
@@ -54,7 +55,7 @@ runsOf rows skip ends values =
     (node 9 4 rows skip 1 noBitmap 0 ∷ node 2 4 (length values) 0 0 noBitmap (length (padded (numbers 4 ends))) ∷ []) rows
 
 -- a call; and one with no stated count and no list, two bytes of scratch and so many of output
-call : List ℕ → List ℕ → Stated → Bool → List ℕ → List ℕ → List ℕ → Call
+unfoldable pub call : List ℕ → List ℕ → Stated → Bool → List ℕ → List ℕ → List ℕ → Call
 call m j count asked list scratch output =
     let mask′ : List ℕ = m in
     let journal′ : List ℕ = j in
@@ -107,7 +108,7 @@ keeps kept slots route m j new scratch =
 untouched : List ℕ
 untouched = 9 ∷ 9 ∷ []
 
-abcde : List ℕ
+unfoldable pub abcde : List ℕ
 abcde = 0x61 ∷ 0x62 ∷ 0x63 ∷ 0x64 ∷ 0x65 ∷ []
 
 five : List ℕ
@@ -203,7 +204,7 @@ same-is t h (x ∷ xs) (y ∷ ys) e =
     ap₂ _∷_ (h x y (both .0)) (same-is t h xs ys (both .1))
 
 test : same (same (same eqb)) (map (λ (c : Case). c .found) cases) (map (λ (c : Case). c .expected) cases) ≡ true
-unfolding Bytes.opened Words.opened Node.opened Verdict.opened Masks.opened Kept.opened Write.opened Answers.opened pack node maskOf natives texts runsOf call plain outcome case refusal keeps untouched five p1 withNull nullInside abcde listed sliced bench refusals cases routeNumber packNumber inNumbers same
+unfolding Bytes.opened Words.opened Node.opened Verdict.opened Masks.opened Kept.opened Write.opened Refusals.opened Answers.opened pack node maskOf natives texts runsOf call plain outcome case refusal keeps untouched five p1 withNull nullInside abcde listed sliced bench refusals cases routeNumber packNumber inNumbers same
 test = refl
 
 -- the one statement
@@ -212,14 +213,14 @@ all-cases = same-is (same (same eqb)) (same-is (same eqb) (same-is eqb eqb-true)
 
 -- demand 3's premises hold of two calls that differ in all that must not show. The journals are a struct of five columns: native,
 -- texts, runs, a dictionary, bits; rows 0 and 3 are kept
-pieces : List (List ℕ) → List ℕ
+unfoldable pub pieces : List (List ℕ) → List ℕ
 pieces ps = join (map padded ps)
 
-place : ℕ → List (List ℕ) → ℕ
+unfoldable pub place : ℕ → List (List ℕ) → ℕ
 place k ps = length (pieces (take k ps))
 
 -- five rows, no skip, no bitmap, every byte used
-tight : List (List ℕ)
+unfoldable pub tight : List (List ℕ)
 tight =
     numbers 4 (5 ∷ 6 ∷ 7 ∷ 8 ∷ 9 ∷ [])
     ∷ numbers 4 (0 ∷ 2 ∷ 2 ∷ 2 ∷ 5 ∷ 5 ∷ [])
@@ -231,7 +232,7 @@ tight =
     ∷ (0x09 ∷ [])
     ∷ []
 
-tightJournal : List ℕ
+unfoldable pub tightJournal : List ℕ
 tightJournal =
     pack (pieces tight)
     (node 10 0 5 0 5 noBitmap 0
@@ -247,7 +248,7 @@ tightJournal =
 
 -- six rows, a skip in every node but the keys', bitmaps in which no kept row is null, other values, texts, runs and keys in the dropped
 -- rows, text bytes and a run that no kept row has, keys of null rows past the dictionary, spare bits set, buffers in another order
-loose : List (List ℕ)
+unfoldable pub loose : List (List ℕ)
 loose =
     (0xAA ∷ 0xAA ∷ 0xAA ∷ [])
     ∷ (0x4F ∷ 0xFE ∷ [])
@@ -264,7 +265,7 @@ loose =
     ∷ (0x90 ∷ 0xFC ∷ [])
     ∷ []
 
-looseJournal : List ℕ
+unfoldable pub looseJournal : List ℕ
 looseJournal =
     pack (pieces loose)
     (node 10 0 6 4 5 (place 12 loose) 0
@@ -279,15 +280,15 @@ looseJournal =
     6
 
 -- room for the whole extract of either, and eight bytes more
-one-way : Call
+unfoldable pub one-way : Call
 one-way = call (maskOf 5 0x09) tightJournal unstated false [] (9 ∷ []) (replicate 416 7)
 
 -- another mask too: a skip, true bits that are null, spare bits set; the list asked for; more scratch
-other-way : Call
+unfoldable pub other-way : Call
 other-way = call (pack (0x7F ∷ 0xD2 ∷ []) (node 1 0 5 1 0 1 0 ∷ []) 5) looseJournal unstated true (1 ∷ 2 ∷ 3 ∷ []) (8 ∷ 8 ∷ []) (replicate 416 7)
 
-premises-hold : Alike one-way other-way
-unfolding Bytes.opened Node.opened Verdict.opened Masks.opened Kept.opened Write.opened Answers.opened pack node maskOf call abcde pieces place tight tightJournal loose looseJournal one-way other-way
+pub premises-hold : Alike one-way other-way
+unfolding Bytes.opened Node.opened Verdict.opened Masks.opened Kept.opened Write.opened Refusals.opened Answers.opened pack node maskOf call abcde pieces place tight tightJournal loose looseJournal one-way other-way
 premises-hold =
     record {
       maskC = refl;
@@ -309,6 +310,6 @@ premises-hold =
     }
 
 -- and neither call is refused: both give an extract of 408 bytes
-premises-succeed : answer one-way ≡ Done 2 5 Indices 408
-unfolding Bytes.opened Node.opened Verdict.opened Masks.opened Kept.opened Write.opened Answers.opened pack node maskOf call abcde pieces place tight tightJournal one-way
+pub premises-succeed : answer one-way ≡ Done 2 5 Indices 408
+unfolding Bytes.opened Node.opened Verdict.opened Masks.opened Kept.opened Write.opened Refusals.opened Answers.opened pack node maskOf call abcde pieces place tight tightJournal one-way
 premises-succeed = refl

@@ -4,12 +4,11 @@ use mathlib.Core.Path.{_≡_, refl, sym, ap, ap₂, _∙_}
 use mathlib.Core.Bool.{Bool, true, false, cond, _&&_, _||_, not, Bool·beq, or-assoc, or-false}
 use mathlib.Core.List.{List, [], _∷_, _++_}
 use lib.Dec.{ltb, eqb}
-use lib.ListN.{length, take}
+use lib.ListN.{length}
 use borrow.Author.Tests.{le-ltb, eq-eqb, ne-eqb}
 use native.Mathlib.Omega.{arith}
 use native.Mathlib.Nat.{eq-or-lt-of-le}
 use mathlib.Core.Logic.{_⊎_, inl, inr}
-use lib.Seq.{take-append-seam}
 use Rattle.format.specs.Bytes.{chosen, over}
 use Rattle.format.specs.Node.{rows}
 use Rattle.format.specs.Verdict.{maskVerdict, journalVerdict}
@@ -17,10 +16,13 @@ use Rattle.format.specs.Mask.{picked, picks, maskLength, count, route, r
 use Rattle.format.specs.declared.Route.{Route}
 use Rattle.format.specs.declared.Route.the-variants.{None, All, Slices, Indices}
 use Rattle.format.specs.declared.Answer.{Answer}
+use Rattle.format.specs.declared.Answer.the-variants.{Done, Refused}
+use Rattle.format.specs.declared.Pack.{Pack}
 use Rattle.format.specs.declared.Pack.the-variants.{Mask, Journal}
 use Rattle.format.specs.Kept.{columns, keptPart}
 use Rattle.format.specs.Write.{write, extract}
-use Rattle.format.specs.Answer.{Call, Returned, answer, answerAt, refusalOf, Refusal, unrefused, refusedBy, when, _then_, ofVerdict, tooLong, wrongCount, listShort, scratchShort, outputShort, extractOf, after, outputAfter, stores, listAfter}
+use Rattle.format.specs.Refusal.{Refusal, unrefused, refusedBy, when, _then_, ofVerdict, after}
+use Rattle.format.specs.Answer.{Call, answer, answerAt, refusalOf, tooLong, wrongCount, listShort, scratchShort, outputShort, extractOf, outputAfter, stores, listAfter}
 
 -- two calls on masks that pick the same rows and journals that are alike in the kept part, whatever else their bytes hold
 pub record Alike (c d : Call) : Type 0 where
@@ -41,23 +43,45 @@ pub record Alike (c d : Call) : Type 0 where
   pub sameOutput : c .output ≡ d .output
   pub sameStated : c .states ≡ d .states
 
--- both calls end alike: both give the extract, the same in length and every byte, or both the same refusal, by number and pack; the same
--- count and route; every byte of the output the same; and, where both store a list, the same entries
-pub record SameEnd (c d : Call) : Type 0 where
-  pub answers : answer c ≡ answer d
-  pub extracts : extractOf c ≡ extractOf d
-  pub counts : count (c .mask) ≡ count (d .mask)
-  pub routes : route (c .mask) ≡ route (d .mask)
-  pub outputs : outputAfter c ≡ outputAfter d
-  pub lists : c .asked ≡ true → d .asked ≡ true → refusalOf c ≡ unrefused
-      → take (length (entries (c .mask))) (listAfter c) ≡ take (length (entries (d .mask))) (listAfter d)
+-- what a caller sees of a call: its answer, told in the caller's own terms (as a value of the answer's type, or in numbers), and what output
+-- and list hold as it returned
+pub record Seen {T : Type 0} (tell : Answer → T) (c : Call) : Type 0 where
+  pub told : T
+  pub output : List ℕ
+  pub list : List ℕ
+  pub tells : told ≡ tell (answer c)
+  pub written : output ≡ outputAfter c
+  pub listed : list ≡ listAfter c
 
--- two returned calls, as their callers see them: the same answer and every byte of the output, and, where both store a list, the same entries
-pub record SameReturn (c d : Call) (r r′ : Answer) (o o′ l l′ : List ℕ) : Type 0 where
-  pub answers : r ≡ r′
-  pub outputs : o ≡ o′
-  pub lists : c .asked ≡ true → d .asked ≡ true → refusalOf c ≡ unrefused
-      → take (length (entries (c .mask))) l ≡ take (length (entries (d .mask))) l′
+module _ {T : Type 0} {tell : Answer → T} {c d : Call} (f : Seen tell c) (g : Seen tell d) where
+  -- both give the extract that the definitions give, the same in length and in every byte, at the front of an output that is else as it was;
+  -- and a call that asks for the list has the same entries as the other at the front of it
+  pub record BothGive : Type 0 where
+    pub extracts : extractOf c ≡ extractOf d
+    pub gives : f .told ≡ tell (Done (count (c .mask)) (maskLength (c .mask)) (route (c .mask)) (length (extractOf c)))
+    pub givesToo : g .told ≡ tell (Done (count (d .mask)) (maskLength (d .mask)) (route (d .mask)) (length (extractOf d)))
+    pub writes : f .output ≡ over (extractOf c) (c .output)
+    pub writesToo : g .output ≡ over (extractOf d) (d .output)
+    pub entered : entries (c .mask) ≡ entries (d .mask)
+    pub lists : c .asked ≡ true → f .list ≡ over (entries (c .mask)) (c .list)
+    pub listsToo : d .asked ≡ true → g .list ≡ over (entries (d .mask)) (d .list)
+
+  -- both give the same refusal, number and pack, and the outputs are as they were
+  pub record BothRefuse : Type 0 where
+    pub number : ℕ
+    pub pack : Pack
+    pub refuses : f .told ≡ tell (Refused number pack)
+    pub refusesToo : g .told ≡ tell (Refused number pack)
+    pub leaves : f .output ≡ c .output
+    pub leavesToo : g .output ≡ d .output
+
+  -- the two calls end alike: the same answer and every byte of the output; count and route equal either way; and either way which it is
+  pub record Same : Type 0 where
+    pub answers : f .told ≡ g .told
+    pub outputs : f .output ≡ g .output
+    pub counts : count (c .mask) ≡ count (d .mask)
+    pub routes : route (c .mask) ≡ route (d .mask)
+    pub either : BothGive ⊎ BothRefuse
 
 -- an accepted call on a long enough journal, with list and scratch enough, is refused by 11 and by 14 only
 accepted-refusal : (c : Call) → maskVerdict (c .mask) ≡ 0 → journalVerdict (c .journal) ≡ 0 → maskLength (c .mask) ≤ rows (c .journal) 0
@@ -66,12 +90,14 @@ accepted-refusal : (c : Call) → maskVerdict (c .mask) ≡ 0 → journalVerdict
 unfolding refusalOf tooLong ofVerdict when _then_
 accepted-refusal c m j long l s = rw (m, j, le-ltb (rows (c .journal) 0) (maskLength (c .mask)) long, l, s)
 
+-- ---- what the chosen numbers tell of their test
+
 -- i stands in the list
-has : List ℕ → ℕ → Bool
+pub has : List ℕ → ℕ → Bool
 has [] i = false
 has (x ∷ xs) i = eqb i x || has xs i
 
-has-append : (xs ys : List ℕ) (i : ℕ) → has (xs ++ ys) i ≡ (has xs i || has ys i)
+pub has-append : (xs ys : List ℕ) (i : ℕ) → has (xs ++ ys) i ≡ (has xs i || has ys i)
 unfolding has
 has-append [] ys i = refl
 has-append (x ∷ xs) ys i = rw (has-append xs ys i) (sym (or-assoc (eqb i x) (has xs i) (has ys i)))
@@ -86,13 +112,13 @@ unfolding has
 last-other true i n h = rw (ne-eqb i n h)
 last-other false i n h = refl
 
-has-above : (p : ℕ → Bool) (n i : ℕ) → n ≤ i → has (chosen p n) i ≡ false
+pub has-above : (p : ℕ → Bool) (n i : ℕ) → n ≤ i → has (chosen p n) i ≡ false
 unfolding chosen has
 has-above p zero i h = refl
 has-above p (suc n) i h = rw (has-append (chosen p n), has-above p n i (omega arith), last-other (p n) i n (λ e. omega arith))
 
 -- the chosen numbers tell the test
-has-chosen : (p : ℕ → Bool) (n i : ℕ) → i < n → has (chosen p n) i ≡ p i
+pub has-chosen : (p : ℕ → Bool) (n i : ℕ) → i < n → has (chosen p n) i ≡ p i
 unfolding chosen
 has-chosen p zero i h = absurd (omega arith)
 has-chosen p (suc n) i h = rw (has-append (chosen p n)) (go (has-chosen p n i) (eq-or-lt-of-le h))
@@ -102,14 +128,14 @@ has-chosen p (suc n) i h = rw (has-append (chosen p n)) (go (has-chosen p n i) (
     go ih (inr l) = rw (ih (omega arith), last-other (p n) i n (λ e. omega arith)) (or-false (p i))
 
 -- tests that agree below n choose the same numbers
-chosen-agree : (p q : ℕ → Bool) (n : ℕ) → ((i : ℕ) → i < n → p i ≡ q i) → chosen p n ≡ chosen q n
+pub chosen-agree : (p q : ℕ → Bool) (n : ℕ) → ((i : ℕ) → i < n → p i ≡ q i) → chosen p n ≡ chosen q n
 unfolding chosen
 chosen-agree p q zero h = refl
 chosen-agree p q (suc n) h = rw (chosen-agree p q n (λ i l. h i (omega arith)), h n (omega arith))
 
 -- tests that choose the same numbers below n agree there, and so have the same runs
 module _ (p q : ℕ → Bool) (n : ℕ) (e : chosen p n ≡ chosen q n) where
-  agree : (i : ℕ) → i < n → p i ≡ q i
+  pub agree : (i : ℕ) → i < n → p i ≡ q i
   agree i l = sym (has-chosen p n i l) ∙ ap (λ (xs : List ℕ). has xs i) e ∙ has-chosen q n i l
 
   agree-before : (i : ℕ) → i < suc n → before p i ≡ before q i
@@ -121,16 +147,16 @@ module _ (p q : ℕ → Bool) (n : ℕ) (e : chosen p n ≡ chosen q n) where
   agree-within i (inl w) = rw (le-ltb i n (omega arith))
   agree-within i (inr l) = rw (agree i l)
 
-  edges-agree : edges p n ≡ edges q n
+  pub edges-agree : edges p n ≡ edges q n
   unfolding edges
   edges-agree =
       chosen-agree _ _ (suc n)
       (λ i l. ap₂ (λ (x y : Bool). not (Bool·beq x y)) (agree-before i l) (agree-within i (eq-or-lt-of-le (omega arith))))
 
 -- a call that is not refused and asks for the list has its entries at the front of it
-stored-front : (c : Call) → c .asked ≡ true → refusalOf c ≡ unrefused → take (length (entries (c .mask))) (listAfter c) ≡ entries (c .mask)
-unfolding listAfter stores after over
-stored-front c a f = rw (f, a) (take-append-seam (entries (c .mask)) _)
+stored : (c : Call) → refusalOf c ≡ unrefused → c .asked ≡ true → listAfter c ≡ over (entries (c .mask)) (c .list)
+unfolding listAfter stores after
+stored c f a = rw (f, a)
 
 module _ (c d : Call) (h : Alike c d) where
   same-count : count (c .mask) ≡ count (d .mask)
@@ -170,28 +196,49 @@ module _ (c d : Call) (h : Alike c d) where
         h .sameStated,
       )
 
-  same-answer : (s : Refusal) → answerAt s c ≡ answerAt s d
+  same-answer : (s : Refusal Pack) → answerAt s c ≡ answerAt s d
   unfolding answerAt
   same-answer unrefused = rw (same-count, h .oneLength, same-route, same-extract)
   same-answer (refusedBy n p) = refl
 
-  pub demand3 : SameEnd c d
-  unfolding answer outputAfter
-  demand3 =
-      record {
-        answers = rw same-refusal (same-answer (refusalOf d));
-        extracts = same-extract;
-        counts = same-count;
-        routes = same-route;
-        outputs = rw (same-refusal, same-extract, h .sameOutput);
-        lists = λ a b f. stored-front c a f ∙ same-entries ∙ sym (stored-front d b (sym same-refusal ∙ f));
-      }
+  same-output : outputAfter c ≡ outputAfter d
+  unfolding outputAfter
+  same-output = rw (same-refusal, same-extract, h .sameOutput)
 
-  -- the same of two calls that returned: what a function whose contract is `Returned` hands over
-  pub demand3-returned : {r r′ : Answer} {o o′ l l′ s s′ : List ℕ} → Returned c r o l s → Returned d r′ o′ l′ s′ → SameReturn c d r r′ o o′ l l′
-  demand3-returned x y =
-      record {
-        answers = x .answered ∙ demand3 .answers ∙ sym (y .answered);
-        outputs = x .written ∙ demand3 .outputs ∙ sym (y .written);
-        lists = λ a b f. rw (x .listed, y .listed) (demand3 .lists a b f);
-      }
+  module _ {T : Type 0} {tell : Answer → T} (f : Seen tell c) (g : Seen tell d) where
+    -- which of the two it is follows from the one refusal that both have
+    ends : (s : Refusal Pack) → refusalOf c ≡ s → refusalOf d ≡ s → BothGive f g ⊎ BothRefuse f g
+    unfolding answer answerAt outputAfter after
+    ends unrefused p q =
+        inl
+        (record {
+          extracts = same-extract;
+          gives = f .tells ∙ ap tell (rw p);
+          givesToo = g .tells ∙ ap tell (rw q);
+          writes = f .written ∙ rw p;
+          writesToo = g .written ∙ rw q;
+          entered = same-entries;
+          lists = λ a. f .listed ∙ stored c p a;
+          listsToo = λ a. g .listed ∙ stored d q a;
+        })
+    ends (refusedBy n k) p q =
+        inr
+        (record {
+          number = n;
+          pack = k;
+          refuses = f .tells ∙ ap tell (rw p);
+          refusesToo = g .tells ∙ ap tell (rw q);
+          leaves = f .written ∙ rw p;
+          leavesToo = g .written ∙ rw q;
+        })
+
+    pub demand3 : Same f g
+    unfolding answer
+    demand3 =
+        record {
+          answers = f .tells ∙ ap tell (rw same-refusal (same-answer (refusalOf d))) ∙ sym (g .tells);
+          outputs = f .written ∙ same-output ∙ sym (g .written);
+          counts = same-count;
+          routes = same-route;
+          either = ends (refusalOf d) same-refusal refl;
+        }

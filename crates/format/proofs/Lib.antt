@@ -9,6 +9,7 @@ pub mod PackedLaws
 pub mod RowLaws
 pub mod Measure
 pub mod Accepted
+pub mod Refusals
 pub mod Returns
 pub mod Demand3
 pub mod Cases

@@ -1,15 +1,17 @@
 -- How long an extract is, without its bytes: laws for the pass that measures before anything is written. Assumes nothing.
 use Prim.Native.Nat.{ℕ, zero, suc, _+_, _*_}
-use mathlib.Core.Path.{_≡_, refl, sym}
+use mathlib.Core.Path.{_≡_, refl, sym, ap, _∙_}
 use mathlib.Core.Bool.{Bool}
 use mathlib.Core.List.{List, [], _∷_, map}
 use native.Mathlib.Nat.{mul-suc}
 use native.Mathlib.Omega.{arith}
 use lib.ListN.{length, length-append, length-replicate}
 use Rattle.format.specs.Bytes.{join, toLe, packed, bytesFor, padded, raised}
-use Rattle.format.specs.Kept.{Column, KeptNode}
+use Rattle.format.specs.Node.{nodeCount}
+use Rattle.format.specs.Kept.{Column, columns, KeptNode, keptPart}
 use Rattle.format.proofs.Laws.{length-table}
-use Rattle.format.specs.Write.{Buffer, absent, holds, numbers, with, addNode, written, write}
+use Rattle.format.specs.Write.{Buffer, absent, holds, numbers, with, addNode, written, write, extract}
+use Rattle.format.specs.Size.{grownIf, grownBy, grownNode, bodySize, packSize, bufferSize, nodeSize, nodeSizeAt}
 
 pub length-padded : (xs : List ℕ) → length (padded xs) ≡ raised (length xs)
 unfolding padded raised
@@ -34,12 +36,11 @@ unfolding numbers
 length-numbers w ns = length-join w (toLe w) ns (length-toLe w)
 
 -- the body's length after a buffer is added
-unfoldable pub grown : ℕ → Buffer → ℕ
-grown n absent = n
-grown n (holds x) = raised n + length x
+abbrev pub grown : ℕ → Buffer → ℕ
+grown n x = grownBy n (bufferSize x)
 
 pub length-with : (body : List ℕ) (x : Buffer) → length (with body x) ≡ grown (length body) x
-unfolding with grown
+unfolding with grownIf bufferSize
 length-with body absent = refl
 length-with body (holds x) = simp (length-append, length-padded)
 
@@ -52,3 +53,36 @@ length-nodes cs ks (suc n) = simp (length-append, length-numbers, length-nodes c
 pub length-write : (cs : List Column) (ks : List KeptNode) → length (write cs ks) ≡ raised (length (written cs ks (length cs) .body)) + 40 * length cs + 16
 unfolding write
 length-write cs ks = simp (length-append, length-padded, length-nodes, length-numbers) (omega arith)
+
+-- ---- the same from the sizes of each node's buffers, over any columns and kept nodes
+
+module _ (cs : List Column) (ks : List KeptNode) where
+  -- one node more
+  pub body-grows : (n : ℕ) → length (written cs ks (suc n) .body) ≡ grownNode (length (written cs ks n .body)) (nodeSizeAt ks n)
+  unfolding written addNode nodeSize
+  body-grows n = simp length-with
+
+  pub length-body : (n : ℕ) → length (written cs ks n .body) ≡ bodySize (nodeSizeAt ks) n
+  unfolding written bodySize
+  length-body zero = refl
+  length-body (suc n) = body-grows n ∙ ap (λ (at : ℕ). grownNode at (nodeSizeAt ks n)) (length-body n)
+
+  pub write-size : length (write cs ks) ≡ packSize (nodeSizeAt ks) (length cs)
+  unfolding packSize
+  write-size = length-write cs ks ∙ ap (λ (at : ℕ). raised at + 40 * length cs + 16) (length-body (length cs))
+
+-- an extract's: from its body, and from the sizes of what each node keeps
+module _ (b root : List ℕ) where
+  pub length-columns : length (columns b) ≡ nodeCount b
+  unfolding columns
+  length-columns = length-table _ (nodeCount b)
+
+  pub length-extract : length (extract b root) ≡ raised (length (written (columns b) (keptPart b root) (nodeCount b) .body)) + 40 * nodeCount b + 16
+  unfolding extract
+  length-extract =
+      length-write (columns b) (keptPart b root)
+      ∙ ap (λ (n : ℕ). raised (length (written (columns b) (keptPart b root) n .body)) + 40 * n + 16) length-columns
+
+  pub extract-size : length (extract b root) ≡ packSize (nodeSizeAt (keptPart b root)) (nodeCount b)
+  unfolding extract
+  extract-size = write-size (columns b) (keptPart b root) ∙ ap (packSize (nodeSizeAt (keptPart b root))) length-columns

@@ -26,7 +26,7 @@ pub one-lt : (t : Bool) → one t < 2
 one-lt true = omega arith
 one-lt false = omega arith
 
-parity : (x : ℕ) → (x % 2 ≡ 0) ⊎ (x % 2 ≡ 1)
+pub parity : (x : ℕ) → (x % 2 ≡ 0) ⊎ (x % 2 ≡ 1)
 parity x = go (x % 2) (mod-lt x (zero-lt-suc 1))
   where
     go : (r : ℕ) → r < 2 → (r ≡ 0) ⊎ (r ≡ 1)
@@ -54,7 +54,7 @@ module _ (t : Bool) (x : ℕ) where
 half-pow : (x k : ℕ) → x / 2 / 2 ^ k ≡ x / 2 ^ suc k
 half-pow x k = shr-shr x 1 k ∙ ap (λ (n : ℕ). x / 2 ^ n) (one-add k)
 
-half-lt : (x k : ℕ) → x < 2 ^ suc k → x / 2 < 2 ^ k
+pub half-lt : (x k : ℕ) → x < 2 ^ suc k → x / 2 < 2 ^ k
 half-lt x k h = let l : x < 2 ^ k * 2 = rw pow-suc at h in omega arith
 
 -- ---- numbers and lists of bits

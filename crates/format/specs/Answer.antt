@@ -1,5 +1,5 @@
--- A whole call: its answer, and its output, list and scratch as it returns ("Refusal slips", "Predicate", "Extract"). Assumes nothing.
-use Prim.Native.Nat.{ℕ, zero, suc}
+-- A whole call: its answer, and its output, list and scratch as it returns (docs/FORMAT.md, 10 and 11). Assumes nothing.
+use Prim.Native.Nat.{ℕ}
 use mathlib.Core.Path.{_≡_}
 use mathlib.Core.Bool.{Bool, false, cond, not, _&&_, _||_}
 use mathlib.Core.List.{List, []}
@@ -11,11 +11,12 @@ use Rattle.format.specs.declared.Answer.{Answer}
 use Rattle.format.specs.declared.Answer.the-variants.{Done, Refused}
 use Rattle.format.specs.declared.Prepared.{Prepared}
 use Rattle.format.specs.declared.Prepared.the-variants as prepare
-use Rattle.format.specs.Bytes.{bytesFor, over, sumBelow}
+use Rattle.format.specs.Bytes.{bytesFor, sumBelow}
 use Rattle.format.specs.Node.{nodeCount, rows, ofKind, child}
 use Rattle.format.specs.Verdict.{maskVerdict, journalVerdict, packLimit}
 use Rattle.format.specs.Mask.{picks, count, route, maskLength, entries}
 use Rattle.format.specs.Write.{extract}
+use Rattle.format.specs.Refusal.{Refusal, unrefused, refusedBy, ofVerdict, when, _then_, after}
 
 -- a stated count, or none
 pub data Stated : Type 0 where
@@ -39,11 +40,6 @@ statedIf b n = cond b (stated n) unstated
 abbrev pub callOf : List ℕ → List ℕ → Stated → Bool → List ℕ → List ℕ → List ℕ → Call
 callOf m j count asked list scratch output =
     record { mask = m; journal = j; states = count; asked = asked; list = list; scratch = scratch; output = output }
-
--- a refusal's number and pack, or none
-pub data Refusal : Type 0 where
-  unrefused : Refusal
-  refusedBy : ℕ → Pack → Refusal
 
 -- the scratch needed: for each runs node, child rows / 8 rounded up, summed
 unfoldable pub scratchNeeded : List ℕ → ℕ
@@ -74,21 +70,8 @@ extractOf c = extract (c .journal) (picks (c .mask))
 unfoldable pub outputShort : ℕ → ℕ → Bool
 outputShort room bytes = ltb room bytes || ltb packLimit bytes
 
--- a pack's own verdict, and a condition of a call, as refusals; the first one counts
-unfoldable pub ofVerdict : Pack → ℕ → Refusal
-ofVerdict p zero = unrefused
-ofVerdict p (suc n) = refusedBy (suc n) p
-
-unfoldable pub when : Bool → ℕ → Pack → Refusal
-when b n p = cond b (refusedBy n p) unrefused
-
-infixr 20 _then_
-unfoldable pub _then_ : Refusal → Refusal → Refusal
-unrefused then t = t
-refusedBy n p then t = refusedBy n p
-
 -- the order: mask 1 to 9, then 11; journal 1 to 8, then 10, 12, 13, 14
-unfoldable pub refusalOf : Call → Refusal
+unfoldable pub refusalOf : Call → Refusal Pack
 refusalOf c =
     ofVerdict Mask (maskVerdict (c .mask))
     then when (wrongCount (c .states) (count (c .mask))) 11 Mask
@@ -99,17 +82,12 @@ refusalOf c =
     then when (outputShort (length (c .output)) (length (extractOf c))) 14 Journal
 
 -- the answer of a call
-unfoldable pub answerAt : Refusal → Call → Answer
+unfoldable pub answerAt : Refusal Pack → Call → Answer
 answerAt unrefused c = Done (count (c .mask)) (maskLength (c .mask)) (route (c .mask)) (length (extractOf c))
 answerAt (refusedBy n p) c = Refused n p
 
 unfoldable pub answer : Call → Answer
 answer c = answerAt (refusalOf c) c
-
--- a buffer as the call returns: as it was if refused, and else with its front written
-unfoldable pub after : Refusal → List ℕ → List ℕ → List ℕ
-after unrefused new old = over new old
-after (refusedBy n p) new old = old
 
 unfoldable pub outputAfter : Call → List ℕ
 outputAfter c = after (refusalOf c) (extractOf c) (c .output)
@@ -138,11 +116,11 @@ abbrev pub preparing : List ℕ → Stated → Bool → List ℕ → Call
 preparing m count asked list = callOf m [] count asked list [] []
 
 -- the order: mask 1 to 9, then 11, then 12, which names the journal here too
-unfoldable pub maskRefusal : Call → Refusal
+unfoldable pub maskRefusal : Call → Refusal Pack
 maskRefusal c =
     ofVerdict Mask (maskVerdict (c .mask)) then when (wrongCount (c .states) (count (c .mask))) 11 Mask then when (listShort c) 12 Journal
 
-unfoldable pub preparedAt : Refusal → Call → Prepared
+unfoldable pub preparedAt : Refusal Pack → Call → Prepared
 preparedAt unrefused c = prepare.Ready (count (c .mask)) (maskLength (c .mask)) (route (c .mask))
 preparedAt (refusedBy n p) c = prepare.Refused n p
 
@@ -159,5 +137,5 @@ pub record Prepares (c : Call) (r : Prepared) (list : List ℕ) : Type 0 where
 
 -- to unfold `opened` is to unfold all of this module
 unfoldable pub opened : Unit {0}
-unfolding scratchNeeded tooLong wrongCount listShort scratchShort extractOf outputShort ofVerdict when _then_ refusalOf answerAt answer after outputAfter stores listAfter scratchAfter maskRefusal preparedAt prepared preparedList
+unfolding scratchNeeded tooLong wrongCount listShort scratchShort extractOf outputShort refusalOf answerAt answer outputAfter stores listAfter scratchAfter maskRefusal preparedAt prepared preparedList
 opened = tt

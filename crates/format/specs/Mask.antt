@@ -1,4 +1,4 @@
--- What a mask picks, its count and route, and the list that a caller may have stored ("Predicate"). Assumes nothing.
+-- What a mask picks, its count and route, and the list that a caller may have stored (docs/FORMAT.md, 6). Assumes nothing.
 use Prim.Native.Nat.{ℕ, zero, suc, _+_, _-_, _*_, _/_}
 use mathlib.Core.Bool.{Bool, false, cond, not, _&&_, _||_, Bool·beq}
 use mathlib.Core.List.{List, []}
@@ -60,7 +60,7 @@ entriesFor Indices m = picks m
 unfoldable pub entries : List ℕ → List ℕ
 entries m = entriesFor (route m) m
 
--- a bitmap column is copied by runs or row numbers, and not by compress ("Extract"): by length, count and whether indices are stored
+-- a bitmap column is copied by runs or row numbers, and not by compress (6): by length, count and whether indices are stored
 unfoldable pub byRoute : ℕ → ℕ → Bool → Bool
 byRoute n c stored = leb (n - n / 64) c || leb c (n / 64) && stored
 

@@ -1,4 +1,4 @@
--- Slots from a place on: those that pass a test, their maximal runs, the word of their tests ("Predicate": set_indices, set_slices, bit_chunks).
+-- Slots from a place on: those that pass a test, their maximal runs, the word of their tests (docs/FORMAT.md, 6).
 -- Each definition takes how many slots are left, and the next one: what a cursor has still to give. Assumes nothing.
 use Prim.Native.Nat.{ℕ, zero, suc, _-_, _≤_, _<_}
 use mathlib.Core.Bool.{Bool, true, false, not, _&&_}

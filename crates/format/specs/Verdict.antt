@@ -1,4 +1,4 @@
--- When a pack is refused: conditions 1 to 8, and 9 for a mask ("Pack", "Refusal slips"). Each condition speaks of all nodes. Assumes nothing.
+-- When a pack is refused: conditions 1 to 8, and 9 for a mask (docs/FORMAT.md, 5 and 11). Each condition speaks of all nodes. Assumes nothing.
 use Prim.Native.Nat.{ℕ, suc, _+_, _*_}
 use mathlib.Core.Bool.{Bool, true, false, not, _&&_, _||_}
 use mathlib.Core.List.{List, [], _∷_, _++_}

@@ -1,4 +1,4 @@
--- Words: a number as the list of its bits, and what a mask gathers ("Predicate": bit_chunks, compress). Assumes nothing.
+-- Words: a number as the list of its bits, and what a mask gathers (docs/FORMAT.md, 6: words, compress). Assumes nothing.
 use Prim.Native.Nat.{ℕ, zero, suc, _+_, _*_, _/_, _%_}
 use mathlib.Core.Bool.{Bool, true, false}
 use mathlib.Core.List.{List, [], _∷_, _++_}

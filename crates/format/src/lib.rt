@@ -1,4 +1,4 @@
-// The types that the code and the definitions of document 01 share. Their meaning is in specs/.
+// The types that the code and the definitions of the format (docs/FORMAT.md) share. Their meaning is in specs/.
 ghost use mathlib.Core.Path.{_≡_};
 ghost use Prim.Native.Nat.{_≤_};
 ghost use Rattle.format.specs.Mask.{routeOf, routeNumber};
@@ -31,7 +31,7 @@ pub enum Route {
 
 impl Route {
     // A share of picked slots above this one goes by runs: they are then so long that a copy of each costs less than one row number a row.
-    // Document 01 and filter.rs have the same number.
+    // docs/FORMAT.md (6) and filter.rs have the same number.
     pub const FILTER_SLICES_SELECTIVITY_THRESHOLD: f64 = 0.8;
 
     // The route of a mask of `filter_length` slots of which `filter_count` are picked.

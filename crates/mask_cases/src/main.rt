@@ -1,4 +1,4 @@
-// Runs the paper's cases of masks and words and prints what each gives: P3 to P7, and by what a bitmap of 128 slots goes.
+// Runs the specification's cases (docs/FORMAT.md) of masks and words and prints what each gives: P3 to P7, and by what a bitmap of 128 slots goes.
 use format::Prepared;
 use format::Route;
 

@@ -19,9 +19,10 @@ use Rattle.format.specs.Kept.{keptRows, keptRuns, cells}
 use Rattle.format.specs.Write.{anyNull, bitmap, first, second, dataLength, extract}
 use Rattle.format.specs.Accepted as is
 use Rattle.format.proofs.Accepted.{numberOf, number-kind}
+use Rattle.format.specs.Size.{grownIf}
 use Rattle.format.proofs.Measure.{grown}
 use Rattle.nesting.specs.Rows.{Ready, Sifted}
-use Rattle.measure.specs.Size.{grownIf, bodyEnd}
+use Rattle.measure.specs.Size.{bodyEnd}
 use Rattle.nesting.proofs.Between.{length-sifted}
 use Rattle.nesting.proofs.Counted.{ready-at}
 use Rattle.nesting.proofs.ByKind.{of-runs, kind-at, param-at, rows-small}

@@ -11,27 +11,24 @@ use Rattle.format.specs.declared.Kind.{Kind}
 use Rattle.format.specs.declared.Kind.the-variants.{Bits, Native, Fixed, Bytes32, Bytes64, Views, Lists32, Lists64, Runs, Struct, Union, Dictionary, Unknown}
 use Rattle.format.specs.Node.{nodeCount, kind, param, rows, skip, places, firstAt, secondAt, secondLength, valid}
 use Rattle.format.specs.Verdict.{layout, firstSize, secondSize}
-use Rattle.format.specs.Kept.{columns, keptNode, keptPart, keptRows, keptRuns, cells, firstEntry, secondEntry}
-use Rattle.format.specs.Write.{absent, holds, anyNull, bitmap, numbers, offsets, ends, first, second, dataLength, addNode, noNode, written, extract}
+use Rattle.format.specs.Kept.{keptNode, keptRows, keptRuns, cells, firstEntry, secondEntry}
+use Rattle.format.specs.Write.{absent, holds, anyNull, bitmap, numbers, offsets, ends, first, second, dataLength, noNode, extract}
 use Rattle.format.proofs.Laws.{join-append, length-table, kept-at}
-use Rattle.format.proofs.Measure.{grown, length-with, length-write, length-numbers, length-packed}
+use Rattle.format.specs.Size.{grownIf, bodySize, packSize, bufferSize, nodeSize}
+use Rattle.format.proofs.Measure.{grown, extract-size, length-numbers, length-packed}
 use Rattle.nesting.specs.Rows.{between, Sifted}
-use Rattle.measure.specs.Size.{grownIf, bodyEnd}
+use Rattle.measure.specs.Size.{bodyEnd}
 
 -- The body, node by node
 
 module _ (b root : List ℕ) where
-  length-columns : length (columns b) ≡ nodeCount b
-  unfolding columns
-  length-columns = length-table _ (nodeCount b)
-
   -- the extract's length, and where its table starts
   pub extract-length : length (extract b root) ≡ raised (bodyEnd b root (nodeCount b)) + 40 * nodeCount b + 16
-  unfolding extract
-  extract-length = length-write (columns b) (keptPart b root) ∙ ap (λ (n : ℕ). raised (bodyEnd b root n) + 40 * n + 16) length-columns
+  unfolding packSize
+  extract-length = extract-size b root
 
   pub body-none : bodyEnd b root 0 ≡ 0
-  unfolding written
+  unfolding bodySize
   body-none = refl
 
   pub body-more : (i : ℕ) → i < nodeCount b
@@ -39,17 +36,17 @@ module _ (b root : List ℕ) where
       ≡ grown
       (grown (grown (bodyEnd b root i) (bitmap (map (valid b i) (keptRows b root i)))) (first (cells (kind b i) b i (keptRows b root i))))
       (second (cells (kind b i) b i (keptRows b root i)))
-  unfolding written addNode keptNode
-  body-more i h = simp (length-with, kept-at b root i noNode h)
+  unfolding bodySize nodeSize keptNode
+  body-more i h = rw (kept-at b root i noNode h)
 
 -- The buffers of a node
 
 held : (at : ℕ) (x : List ℕ) {n : ℕ} → length x ≡ n → grown at (holds x) ≡ grownIf at true n
-unfolding grown grownIf
+unfolding bufferSize
 held at x e = rw e
 
 gone : (at n : ℕ) → grown at absent ≡ grownIf at false n
-unfolding grown grownIf
+unfolding bufferSize grownIf
 gone at n = refl
 
 pub bitmap-grows : (at : ℕ) (vs : List Bool) → grown at (bitmap vs) ≡ grownIf at (anyNull vs) (bytesFor (length vs))

@@ -1,6 +1,4 @@
 // The measure of an extract: how many rows each node keeps, how long the extract is, and how much scratch it takes.
-pub mod data;
-mod root;
 mod size;
 
 ghost use mathlib.Core.Path.{_≡_};
@@ -16,8 +14,8 @@ ghost use Rattle.format.specs.Accepted.{Sound};
 ghost use Rattle.slots.specs.Source.{Lies};
 ghost use Rattle.nesting.specs.Rows.{picksOf, Ready, Counts, Table};
 ghost use Rattle.measure.specs.Size.{bodyEnd};
-use data::any_null;
-use data::data_length;
+use kept_data::data::any_null;
+use kept_data::data::data_length;
 use nesting::rows::count_kept;
 use nesting::table::RUNS;
 use nesting::table::node_count;

@@ -3,7 +3,7 @@ ghost use mathlib.Core.Path.{_≡_};
 ghost use Prim.Native.Nat.{_^_, _≤_};
 ghost use Rattle.format.specs.Bytes.{bytesFor, raised};
 ghost use Rattle.format.specs.Verdict.{layout, firstSize, secondSize};
-ghost use Rattle.measure.specs.Size.{grownIf};
+ghost use Rattle.format.specs.Size.{grownIf};
 use format::Kind;
 
 // How many bytes hold n bits.

@@ -11,6 +11,7 @@ use borrow.Author.Tests.{le-ltb, lt-ltb, le-leb, lt-leb}
 use lib.Dec.{leb}
 use lib.ListN.{length, length-append}
 use Rattle.format.specs.Bytes.{anyBelow, chosen, within}
+use Rattle.format.proofs.Demand3.{chosen-agree}
 use Rattle.nesting.specs.Rows.{between, Sifted}
 
 -- Ranges
@@ -116,12 +117,6 @@ module _ (p : ℕ → Bool) where
       go : (t : Bool) → length (cond t (n ∷ []) []) ≤ 1
       go true = omega arith
       go false = omega arith
-
--- tests that agree below n choose the same numbers
-pub chosen-agree : (p q : ℕ → Bool) (n : ℕ) → ((i : ℕ) → i < n → p i ≡ q i) → chosen p n ≡ chosen q n
-unfolding chosen
-chosen-agree p q zero h = refl
-chosen-agree p q (suc n) h = rw (chosen-agree p q n (λ i l. h i (omega arith)), h n (omega arith))
 
 pub chosen-more : (p : ℕ → Bool) (n m : ℕ) → n ≤ m → ((r : ℕ) → n ≤ r → p r ≡ false) → chosen p m ≡ chosen p n
 unfolding chosen

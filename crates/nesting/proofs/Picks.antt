@@ -10,7 +10,8 @@ use Rattle.format.specs.Bytes.{anyBelow, chosen}
 use Rattle.format.specs.Slots.{picksFrom}
 use Rattle.format.proofs.SlotLaws.{chosen-picks}
 use Rattle.slots.specs.declared.Bits.{Bits}
-use Rattle.slots.specs.Source.{slotOf, anyIn}
+use Rattle.slots.specs.Source.{slotOf}
+use Rattle.scan.specs.Asked.{anyIn}
 use Rattle.slots.proofs.Reading.{slot-past}
 use Rattle.nesting.specs.Rows.{between, picksOf, Sifted}
 use Rattle.nesting.proofs.Between.{empty, any-chosen, sifted, sifted-more, chosen-more}

@@ -16,9 +16,11 @@ use Rattle.format.specs.Kept.{groupSize, keptRuns, keptRows}
 use Rattle.format.specs.Accepted.{RunEnds}
 use Rattle.format.specs.Accepted as is
 use Rattle.slots.specs.declared.Bits.{Bits}
-use Rattle.slots.specs.Source.{slotOf, anyIn}
+use Rattle.slots.specs.Source.{slotOf}
+use Rattle.scan.specs.Asked.{anyIn}
 use Rattle.nesting.specs.Rows.{between, keeps, picksOf, edge, AtRuns, RootRuns, AtRoot}
-use Rattle.nesting.proofs.Between.{empty, above, cut, told, chosen-agree}
+use Rattle.format.proofs.Demand3.{chosen-agree}
+use Rattle.nesting.proofs.Between.{empty, above, cut, told}
 use Rattle.nesting.proofs.Runs.{rowsFrom, rowsTo, group}
 use Rattle.nesting.proofs.Picks.{any-picks}
 use Rattle.nesting.proofs.Tree.{kept-runs}

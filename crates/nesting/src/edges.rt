@@ -36,9 +36,9 @@ pub fn count_runs(mask: &[u8], bits: Bits, journal: &[u8], table: &[u32; 640], i
         let hi = end_edge(journal, table, i, j, len);
         // A run that is one word of the mask is asked without a call.
         let some = if (hi - lo <= 57) & (lo + 64 <= len) {
-            slots::any_short(mask, bits, lo, hi)
+            scan::any_short(mask, bits, lo, hi)
         } else {
-            slots::any_within(mask, bits, lo, hi)
+            scan::any_within(mask, bits, lo, hi)
         };
         n += some as usize;
         lo = hi;

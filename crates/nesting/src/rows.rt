@@ -22,7 +22,7 @@ fn any_picked(mask: &[u8], bits: Bits, from: usize, to: usize) -> bool
     requires { ⌜ Lies (now mask) bits ⌝ }
     ensures { λ r. ⌜ r ≡ between (picksOf (now (mask .entry)) bits) from to ⌝ }
 {
-    slots::any_picked(mask, bits, from, to)
+    scan::any_picked(mask, bits, from, to)
 }
 
 // Some row of [from, to) of the node is kept. A child of struct or union asks its parent the same; a run asks for its rows; a carried

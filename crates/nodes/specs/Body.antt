@@ -1,4 +1,4 @@
--- What a node adds to the body and to the table, from the place where the body ends ("Written"). Assumes nothing.
+-- What a node adds to the body and to the table, from the place where the body ends (docs/FORMAT.md, 8). Assumes nothing.
 use Prim.Native.Nat.{ℕ}
 use mathlib.Core.List.{List, [], _∷_, _++_}
 use lib.ListN.{length}

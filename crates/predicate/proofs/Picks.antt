@@ -49,13 +49,6 @@ picks-upto p len from to l h =
     let i : from + (to - from) ≡ to = omega arith in
     rw (n, picks-cat, i)
 
--- and a word more
-pub picks-next : (p : ℕ → Bool) (from i next : ℕ) {x : ℕ} → from ≤ i → next ≡ i + 64 → x ≡ wordFrom p 64 i → picksFrom p (next - from) from ≡ picksFrom p (i - from) from ++ setRows i x
-picks-next p from i next l e is =
-    let n : next - from ≡ (i - from) + 64 = omega arith in
-    let j : from + (i - from) ≡ i = omega arith in
-    rw (n, picks-cat, j, is, set-from)
-
 pub picks-end : {p : ℕ → Bool} {from len : ℕ} → All p false from len → picksOn p len from ≡ []
 unfolding picksOn
 picks-end {p} {from} {len} all = picks-none p (len - from) from (record { at = λ j l h. all .at j l (omega arith) })

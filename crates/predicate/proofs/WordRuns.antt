@@ -17,7 +17,7 @@ use Rattle.format.specs.Words.{wordOf}
 use Rattle.format.proofs.RowLaws.{up-none}
 use Rattle.format.proofs.SlotLaws.{all-none, all-less, all-join, after-is}
 use Rattle.format.proofs.WordLaws.{from-ext, from-clear, from-zero, Lowest, lowest-set}
-use Rattle.slots.proofs.Scan.{Scanned, Hit, hit}
+use Rattle.scan.proofs.Scan.{Scanned, Hit, hit}
 use Rattle.predicate.specs.declared.Block.{Block}
 use Rattle.predicate.specs.declared.Block.the-variants as block
 use Rattle.predicate.specs.Selection.{picksOn}

@@ -9,8 +9,8 @@ ghost use Rattle.slots.specs.Source.{slotOf, Lies};
 ghost use Rattle.predicate.specs.Selection.{InStep, keptBy, Readable, entriesOn, picksOn, selectionFor, lazy};
 ghost use Rattle.predicate.specs.Blocks.{Worded, Blocked, Found, Filled, NextRun};
 use format::Route;
+use scan::Run;
 use slots::Bits;
-use slots::Run;
 
 // How many entries of the lent list are stored; or none are, and the mask is read each time.
 pub enum Held {
@@ -69,11 +69,11 @@ fn run_end(s: &[u8], b: Bits, from: usize) -> usize
     ensures { λ r. ⌜ Filled (slotOf (now (s .entry)) b) (64 * from) (b .len) r ⌝ }
 {
     let len = b.len;
-    let w = slots::ones_end(s, b, from);
+    let w = scan::ones_end(s, b, from);
     if len < 64 * w + 128 {
         return 64 * w;
     }
-    64 * w + u64::trailing_zeros(slots::ONES - slots::word_in(s, b, w)) as usize
+    64 * w + u64::trailing_zeros(scan::ONES - slots::word_in(s, b, w)) as usize
 }
 
 // Whether a word has at most two set bits. Nothing is promised: it chooses between two right answers.
@@ -123,7 +123,7 @@ fn word_block(s: &[u8], b: Bits, place: usize, w: usize, x: u64, index: usize) -
 {
     let base = 64 * w;
     let t = u64::trailing_zeros(x) as usize;
-    let y = (slots::ONES - x) >> t << t;
+    let y = (scan::ONES - x) >> t << t;
     if !(few(y) | long(x)) {
         return Block::Word(
             base,
@@ -166,7 +166,7 @@ pub fn run_from(s: &[u8], b: Bits, place: usize) -> Rows
     }
     let base = 64 * w;
     let t = u64::trailing_zeros(x) as usize;
-    let y = (slots::ONES - x) >> t << t;
+    let y = (scan::ONES - x) >> t << t;
     if y == 0 {
         let e = run_end(s, b, w + 1);
         return Rows {

@@ -19,7 +19,8 @@ use Rattle.format.specs.Verdict.{rowLimit, maskVerdict, journalVerdict}
 use Rattle.format.specs.Mask as Masks
 use Rattle.format.specs.Mask.{count, maskLength, routeOf, entriesFor, entries}
 use Rattle.format.specs.Put.{Wrote}
-use Rattle.format.specs.Answer.{Call, Stated, unstated, Refusal, unrefused, refusedBy, wrongCount, listShort, ofVerdict, when, _then_, after, stores, preparing, maskRefusal, preparedAt, prepared, preparedList, Prepares, tooLong, refusalOf}
+use Rattle.format.specs.Refusal.{Refusal, unrefused, refusedBy, ofVerdict, when, _then_, after}
+use Rattle.format.specs.Answer.{Call, Stated, unstated, wrongCount, listShort, stores, preparing, maskRefusal, preparedAt, prepared, preparedList, Prepares, tooLong, refusalOf}
 use Rattle.format.proofs.Put.{wrote-front}
 use Rattle.format.proofs.SlotLaws.{count-le}
 use Rattle.slots.specs.declared.Bits.{Bits}
@@ -101,7 +102,7 @@ module _ (m old : List ℕ) (t : Bool) (st : Stated) where
   unfolding listShort
   short-same = refl
 
-  answer-same : (f : Refusal) → preparedAt f (preparing m st t old) ≡ preparedAt f (preparing m unstated t old)
+  answer-same : (f : Refusal Pack) → preparedAt f (preparing m st t old) ≡ preparedAt f (preparing m unstated t old)
   unfolding preparedAt
   answer-same unrefused = refl
   answer-same (refusedBy n p) = refl
@@ -125,7 +126,7 @@ module _ (m old : List ℕ) (t : Bool) (st : Stated) where
 
 -- ---- the slip is that of a whole call, whose journal is accepted and not too short
 
-then-on : {n : ℕ} {p : Pack} (a b d rest : Refusal) → (a then b then d) ≡ refusedBy n p → (a then b then unrefused then unrefused then d then rest) ≡ refusedBy n p
+then-on : {n : ℕ} {p : Pack} (a b d rest : Refusal Pack) → (a then b then d) ≡ refusedBy n p → (a then b then unrefused then unrefused then d then rest) ≡ refusedBy n p
 unfolding _then_
 then-on (refusedBy k q) b d rest e = e
 then-on unrefused (refusedBy k q) d rest e = e

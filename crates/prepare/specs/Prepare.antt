@@ -8,7 +8,8 @@ use Rattle.format.specs.Verdict.{maskVerdict}
 use Rattle.format.specs.Mask.{count}
 use Rattle.slots.specs.declared.Bits.{Bits}
 use Rattle.slots.specs.Node.{bitsOf}
-use Rattle.format.specs.Answer.{Call, listShort, when, preparedAt, after, stores}
+use Rattle.format.specs.Refusal.{when, after}
+use Rattle.format.specs.Answer.{Call, listShort, preparedAt, stores}
 
 -- b is where the bits of the accepted mask m stand, and kept is its count
 pub record Counted (m : List ℕ) (b : Bits) (kept : ℕ) : Type 0 where

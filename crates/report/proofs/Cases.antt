@@ -1,4 +1,4 @@
--- The paper's two lines, and one of zeros, as one table proved by one statement, by computation. Assumes nothing.
+-- The specification's two lines, and one of zeros, as one table proved by one statement, by computation. Assumes nothing.
 use Prim.Native.Nat.{ℕ}
 use mathlib.Core.Path.{_≡_, refl}
 use mathlib.Core.List.{List, [], _∷_, map}

@@ -1,4 +1,4 @@
--- The line that the program `extract` prints of an answer, as bytes ("Bench cases", last paragraph). Assumes nothing.
+-- The line that the program `extract` prints of an answer, as bytes (docs/FORMAT.md, 10). Assumes nothing.
 use Prim.Native.Nat.{ℕ, zero, suc, _+_, _/_, _%_}
 use Prim.Native.Char.{code}
 use Prim.Native.String.{String, [] as []ᵗ, _∷_ as _∷ᵗ_}
@@ -30,7 +30,7 @@ decimal n = digits (suc n) n
 abbrev pub mostDigits : ℕ
 mostDigits = 20
 
--- the paper's words for routes and packs
+-- the specification's words for routes and packs
 unfoldable pub routeName : Route → List ℕ
 routeName None = bytesOf "none"
 routeName All = bytesOf "all"

@@ -13,7 +13,7 @@ fn put_text(out: &mut [u8], at: usize, text: &[u8]) -> usize
     requires { ⌜ at + length (now text) ≤ length (now out) ⌝ }
     ensures { λ r. ⌜ Wrote (now (out .entry)) at (now (text .entry)) (now (out .exit)) r ⌝ }
 {
-    words::copy(out, at, text, 0, text.len())
+    copies::copy(out, at, text, 0, text.len())
 }
 
 // A number in decimal at a place: the digits before the last, if there are any, and the last.

@@ -1,24 +1,24 @@
 -- The extract of a call that is not refused is itself an accepted pack, and read back under a mask that is all true it gives the very kept part that it was
 -- made from, and so itself again, byte for byte. Assumes nothing.
-use Prim.Native.Nat.{ℕ, zero, suc, _≤_, _<_}
-use mathlib.Core.Path.{_≡_, refl, sym, ap, ap₂, _∙_}
-use mathlib.Core.Bool.{Bool, true, false}
+use Prim.Native.Nat.{ℕ, _≤_, _<_}
+use mathlib.Core.Path.{_≡_, sym, ap, ap₂, _∙_}
+use mathlib.Core.Bool.{Bool}
 use mathlib.Core.List.{List}
 use native.Mathlib.Omega.{arith}
 use borrow.Author.Tests.{ltb-false}
 use lib.Dec.{ltb}
 use lib.ListN.{length, getD, take}
-use lib.Seq.{take-append-seam}
-use Rattle.format.specs.declared.Pack.{Pack}
-use Rattle.format.specs.Bytes.{chosen, over}
+use Rattle.format.specs.Bytes.{chosen}
 use Rattle.format.specs.Node.{rows}
 use Rattle.format.specs.Verdict.{packLimit, journalVerdict, conditions, firstOf}
 use Rattle.format.specs.Mask.{picked, picks, maskLength, count}
 use Rattle.format.specs.Kept.{keptPart}
 use Rattle.format.specs.Write.{extract}
-use Rattle.format.specs.Answer.{Call, Refusal, unrefused, refusedBy, refusalOf, ofVerdict, when, _then_, tooLong, outputShort, extractOf, outputAfter, after}
+use Rattle.format.specs.Refusal.{unrefused}
+use Rattle.format.specs.Answer.{Call, refusalOf, tooLong, outputShort, extractOf, outputAfter}
 use Rattle.format.proofs.Laws.{kept-root}
 use Rattle.format.proofs.Accepted.{or-right}
+use Rattle.format.proofs.Refusals.{passed, passed-verdict, passed-test, front}
 use Rattle.roundtrip.specs.Back.{Extracted, ReadBack, Then, allRows}
 use Rattle.roundtrip.proofs.Rows.{below-chosen, chosen-all}
 use Rattle.roundtrip.proofs.Again.{facts, rows-kept, columns-again, kept-again, extract-again}
@@ -56,22 +56,6 @@ module _ (b rs : List ℕ) (p : ℕ → Bool) (n : ℕ)
 
 -- ---- a call
 
--- what a call that is not refused passed
-passed : (r t : Refusal) → (r then t) ≡ unrefused → (r ≡ unrefused) × (t ≡ unrefused)
-unfolding _then_
-passed unrefused t e = (refl, e)
-passed (refusedBy n p) t e = let z : _≡_ {A = ℕ} 0 1 = cc in absurd (omega arith)
-
-passed-verdict : (p : Pack) (n : ℕ) → ofVerdict p n ≡ unrefused → n ≡ 0
-unfolding ofVerdict
-passed-verdict p zero e = refl
-passed-verdict p (suc n) e = let z : _≡_ {A = ℕ} 0 1 = cc in absurd (omega arith)
-
-passed-test : (t : Bool) (n : ℕ) (p : Pack) → when t n p ≡ unrefused → t ≡ false
-unfolding when
-passed-test true n p e = let z : _≡_ {A = ℕ} 0 1 = cc in absurd (omega arith)
-passed-test false n p e = refl
-
 pub call-extracted : (c : Call) → refusalOf c ≡ unrefused → ((k : ℕ) → getD (c .journal) k 0 < 256) → Extracted (c .journal) (picks (c .mask))
 unfolding refusalOf picks tooLong outputShort extractOf
 call-extracted c done bytes =
@@ -93,8 +77,8 @@ call-extracted c done bytes =
 
 -- the extract is what stands at the front of the output
 pub output-front : (c : Call) → refusalOf c ≡ unrefused → take (length (extractOf c)) (outputAfter c) ≡ extractOf c
-unfolding outputAfter after over
-output-front c done = rw done (take-append-seam (extractOf c) _)
+unfolding outputAfter
+output-front c done = front (refusalOf c) (extractOf c) (c .output) done
 
 pub call-read-back : (c : Call) → refusalOf c ≡ unrefused → ((k : ℕ) → getD (c .journal) k 0 < 256) → ReadBack (c .journal) (picks (c .mask))
 call-read-back c done bytes = read-back (call-extracted c done bytes)

@@ -144,7 +144,7 @@ total-snoc (y ∷ xs) x =
     total-cons y (xs ++ (x ∷ [])) (length (xs ++ (x ∷ []))) ∙ ap (y +_) (total-snoc xs x) ∙ sym (add-assoc y (total xs (length xs)) x)
     ∙ ap (_+ x) (sym (total-cons y xs (length xs)))
 
-map-snoc : (f : ℕ → ℕ) (xs : List ℕ) (x : ℕ) → map f (xs ++ (x ∷ [])) ≡ map f xs ++ (f x ∷ [])
+pub map-snoc : (f : ℕ → ℕ) (xs : List ℕ) (x : ℕ) → map f (xs ++ (x ∷ [])) ≡ map f xs ++ (f x ∷ [])
 map-snoc f [] x = refl
 map-snoc f (y ∷ xs) x = ap (f y ∷_) (map-snoc f xs x)
 
@@ -152,7 +152,7 @@ map-snoc f (y ∷ xs) x = ap (f y ∷_) (map-snoc f xs x)
 abbrev sizesOf : (ℕ → ℕ) → ℕ → List ℕ
 sizesOf g n = map g (chosen (λ j. ltb 0 (g j)) n)
 
-sum-sizes : (g : ℕ → ℕ) (n : ℕ) → total (sizesOf g n) (length (sizesOf g n)) ≡ sumBelow g n
+pub sum-sizes : (g : ℕ → ℕ) (n : ℕ) → total (sizesOf g n) (length (sizesOf g n)) ≡ sumBelow g n
 unfolding chosen total sumBelow
 sum-sizes g zero = refl
 sum-sizes g (suc n) = go (ltb 0 (g n)) refl (sum-sizes g n)
@@ -193,7 +193,7 @@ module _ (b : List ℕ) (i : ℕ) (q : RunEnds b i) (rs : List ℕ) (picked : Be
   unfolding runStart
   starts-rise j l = omega (arith, q .rise j l)
 
-  counted : (m : ℕ) → m ≤ rows b (child i) → sumBelow (groupSize b i rs) m ≡ countIf (λ r. ltb (skip b i + r) (runStart b i m)) rs
+  pub counted : (m : ℕ) → m ≤ rows b (child i) → sumBelow (groupSize b i rs) m ≡ countIf (λ r. ltb (skip b i + r) (runStart b i m)) rs
   unfolding sumBelow groupSize inRun runStart
   counted zero l = sym (count-none (λ r. ltb (skip b i + r) 0) rs (λ r. le-ltb (skip b i + r) 0 (omega arith)))
   counted (suc m) l =

@@ -54,7 +54,7 @@ shares-of b i q = go (ofKind 10 b i) refl
     go true p = rw (kind-number b i 10 (eqb-true (kindNumber b i) 10 p)) is.Shares.struct
     go false p = rw (kind-number b i 11 (eqb-true (kindNumber b i) 11 (rw p at q))) is.Shares.union
 
-none-null : (f : ℕ → Bool) (rs : List ℕ) → ((r : ℕ) → f r ≡ true) → anyNull (map f rs) ≡ false
+pub none-null : (f : ℕ → Bool) (rs : List ℕ) → ((r : ℕ) → f r ≡ true) → anyNull (map f rs) ≡ false
 unfolding anyNull
 none-null f [] h = refl
 none-null f (r ∷ rs) h = rw (h r, none-null f rs h)

@@ -10,7 +10,8 @@ use Rattle.format.specs.Verdict.{packLimit, journalVerdict}
 use Rattle.format.specs.Mask.{picked, maskLength, count}
 use Rattle.format.specs.Kept.{columns, keptPart}
 use Rattle.format.specs.Write.{extract}
-use Rattle.format.specs.Answer.{Call, refusalOf, unrefused, extractOf}
+use Rattle.format.specs.Refusal.{unrefused}
+use Rattle.format.specs.Answer.{Call, refusalOf, extractOf}
 
 -- numbers below n, as many at most: what the kept rows of a node with n rows are
 pub record Below (n : ℕ) (rs : List ℕ) : Type 0 where

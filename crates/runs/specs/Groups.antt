@@ -1,4 +1,4 @@
--- The rows of a selection grouped by runs, and the run ends of the groups that are not empty ("Extract": runs). Assumes nothing.
+-- The rows of a selection grouped by runs, and the run ends of the groups that are not empty (docs/FORMAT.md, 8: kind 9). Assumes nothing.
 use Prim.Native.Nat.{ℕ, zero, suc, _+_, _*_, _≤_, _<_}
 use mathlib.Core.Bool.{true}
 use mathlib.Core.List.{List, [], _∷_, map}

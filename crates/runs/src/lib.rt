@@ -4,7 +4,7 @@ ghost use mathlib.Core.List.{[], _∷_};
 ghost use mathlib.Core.Path.{_≡_};
 ghost use Prim.Native.Nat.{_+_, _-_, _≤_, min};
 ghost use lib.ListN.{length};
-ghost use Rattle.format.specs.Bytes.{le};
+ghost use Rattle.format.specs.Bytes.{le, toLe};
 ghost use Rattle.format.specs.Put.{Wrote};
 ghost use Rattle.format.specs.Slots.{wordFrom, picksFrom};
 ghost use Rattle.format.specs.Verdict.{oneOf};
@@ -105,6 +105,20 @@ fn number(s: &[u8], at: usize, width: usize) -> u64
     }
 }
 
+// A run end in 2, 4 or 8 bytes at a place; only the bytes that fit are written. `append::fields::put_number` takes any width by a loop over bytes,
+// and compiled into the loops below that loop holds the registers which they need: 5 % of a whole call.
+fn put_end(out: &mut [u8], at: usize, end: u64, width: usize) -> usize
+    requires { ⌜ oneOf (2 ∷ 4 ∷ 8 ∷ []) width ≡ true ⌝ }
+    requires { ⌜ at + width ≤ length (now out) ⌝ }
+    ensures { λ r. ⌜ Wrote (now (out .entry)) at (toLe width end) (now (out .exit)) r ⌝ }
+{
+    match width {
+        2 => words::put16(out, at, (end % 0x1_0000) as u16),
+        4 => words::put32(out, at, (end % 0x1_0000_0000) as u32),
+        _ => words::put64(out, at, end),
+    }
+}
+
 // Where a run that ends at `end` ends among the rows after skip: not past the last of them.
 fn clipped(end: usize, skip: usize, len: usize) -> usize
     ensures { λ r. ⌜ r ≡ min (end - skip) len ⌝ }
@@ -148,130 +162,13 @@ fn ends_kept(
         j += 1;
         if 0 < size {
             kept += size;
-            here = append::fields::put_number(out, here, kept as u64, width);
+            here = put_end(out, here, kept as u64, width);
         }
     }
     here
 }
 
-// `ends_kept` where bits say which rows are kept and a run end has 2 bytes: nothing is asked for each run but which count is due.
-fn ends2(
-    out: &mut [u8],
-    at: usize,
-    journal: &[u8],
-    first: usize,
-    n: usize,
-    skip: usize,
-    s: &[u8],
-    b: Bits,
-) -> usize
-    requires { ⌜ EndsLie 2 (now journal) first n ⌝ }
-    requires { ⌜ Lies (now s) b ⌝ }
-    requires { ⌜ at + length (endBytes 2 (sizeAt 2 (now journal) first skip (picksFrom (slotOf (now s) b) (b .len) 0)) n) ≤ length (now out) ⌝ }
-    ensures { λ r. ⌜ Wrote (now (out .entry)) at (endBytes 2 (sizeAt 2 (now (journal .entry)) first skip (picksFrom (slotOf (now (s .entry)) b) (b .len) 0)) n) (now (out .exit)) r ⌝ }
-{
-    let len = b.len;
-    let mut here = at;
-    let mut kept: usize = 0;
-    let mut lo: usize = 0;
-    let mut j: usize = 0;
-    while j < n {
-        let end = words::get16(journal, first + 2 * j) as usize;
-        let hi = clipped(end, skip, len);
-        let picked = if (hi - lo <= 57) & (lo + 64 <= len) {
-            count_short(s, b, lo, hi)
-        } else {
-            count_words(s, b, lo, hi)
-        };
-        lo = hi;
-        j += 1;
-        if 0 < picked {
-            kept += picked;
-            here = words::put16(out, here, (kept % 0x1_0000) as u16);
-        }
-    }
-    here
-}
-
-// The same for run ends of 4 bytes.
-fn ends4(
-    out: &mut [u8],
-    at: usize,
-    journal: &[u8],
-    first: usize,
-    n: usize,
-    skip: usize,
-    s: &[u8],
-    b: Bits,
-) -> usize
-    requires { ⌜ EndsLie 4 (now journal) first n ⌝ }
-    requires { ⌜ Lies (now s) b ⌝ }
-    requires { ⌜ at + length (endBytes 4 (sizeAt 4 (now journal) first skip (picksFrom (slotOf (now s) b) (b .len) 0)) n) ≤ length (now out) ⌝ }
-    ensures { λ r. ⌜ Wrote (now (out .entry)) at (endBytes 4 (sizeAt 4 (now (journal .entry)) first skip (picksFrom (slotOf (now (s .entry)) b) (b .len) 0)) n) (now (out .exit)) r ⌝ }
-{
-    let len = b.len;
-    let mut here = at;
-    let mut kept: usize = 0;
-    let mut lo: usize = 0;
-    let mut j: usize = 0;
-    while j < n {
-        let end = words::get32(journal, first + 4 * j) as usize;
-        let hi = clipped(end, skip, len);
-        let picked = if (hi - lo <= 57) & (lo + 64 <= len) {
-            count_short(s, b, lo, hi)
-        } else {
-            count_words(s, b, lo, hi)
-        };
-        lo = hi;
-        j += 1;
-        if 0 < picked {
-            kept += picked;
-            here = words::put32(out, here, (kept % 0x1_0000_0000) as u32);
-        }
-    }
-    here
-}
-
-// The same for run ends of 8 bytes.
-fn ends8(
-    out: &mut [u8],
-    at: usize,
-    journal: &[u8],
-    first: usize,
-    n: usize,
-    skip: usize,
-    s: &[u8],
-    b: Bits,
-) -> usize
-    requires { ⌜ EndsLie 8 (now journal) first n ⌝ }
-    requires { ⌜ Lies (now s) b ⌝ }
-    requires { ⌜ at + length (endBytes 8 (sizeAt 8 (now journal) first skip (picksFrom (slotOf (now s) b) (b .len) 0)) n) ≤ length (now out) ⌝ }
-    ensures { λ r. ⌜ Wrote (now (out .entry)) at (endBytes 8 (sizeAt 8 (now (journal .entry)) first skip (picksFrom (slotOf (now (s .entry)) b) (b .len) 0)) n) (now (out .exit)) r ⌝ }
-{
-    let len = b.len;
-    let mut here = at;
-    let mut kept: usize = 0;
-    let mut lo: usize = 0;
-    let mut j: usize = 0;
-    while j < n {
-        let end = words::get64(journal, first + 8 * j) as usize;
-        let hi = clipped(end, skip, len);
-        let picked = if (hi - lo <= 57) & (lo + 64 <= len) {
-            count_short(s, b, lo, hi)
-        } else {
-            count_words(s, b, lo, hi)
-        };
-        lo = hi;
-        j += 1;
-        if 0 < picked {
-            kept += picked;
-            here = words::put64(out, here, kept as u64);
-        }
-    }
-    here
-}
-
-// `ends_kept` where bits say which rows are kept, by the width of a run end.
+// `ends_kept` where bits say which rows are kept: nothing is asked for each run but its width and which count is due.
 fn ends_picked(
     out: &mut [u8],
     at: usize,
@@ -288,11 +185,27 @@ fn ends_picked(
     requires { ⌜ at + length (endBytes width (sizeAt width (now journal) first skip (picksFrom (slotOf (now s) b) (b .len) 0)) n) ≤ length (now out) ⌝ }
     ensures { λ r. ⌜ Wrote (now (out .entry)) at (endBytes width (sizeAt width (now (journal .entry)) first skip (picksFrom (slotOf (now (s .entry)) b) (b .len) 0)) n) (now (out .exit)) r ⌝ }
 {
-    match width {
-        2 => ends2(out, at, journal, first, n, skip, s, b),
-        4 => ends4(out, at, journal, first, n, skip, s, b),
-        _ => ends8(out, at, journal, first, n, skip, s, b),
+    let len = b.len;
+    let mut here = at;
+    let mut total: usize = 0;
+    let mut lo: usize = 0;
+    let mut j: usize = 0;
+    while j < n {
+        let end = number(journal, first + width * j, width) as usize;
+        let hi = clipped(end, skip, len);
+        let picked = if (hi - lo <= 57) & (lo + 64 <= len) {
+            count_short(s, b, lo, hi)
+        } else {
+            count_words(s, b, lo, hi)
+        };
+        lo = hi;
+        j += 1;
+        if 0 < picked {
+            total += picked;
+            here = put_end(out, here, total as u64, width);
+        }
     }
+    here
 }
 
 // The ends of the runs with a kept row, each at the running kept count; neighbours are not merged. The n run ends stand in the journal from

@@ -22,7 +22,7 @@ use predicate::store_list;
 use slots::Bits;
 use write::write_extract;
 
-// Rows are few where at most one in 64 slots is picked, as "Extract" has it of a bitmap column; so at most this many of a mask's 1,048,576 slots.
+// Rows are few where at most one in 64 slots is picked, as docs/FORMAT.md (6) has it of a bitmap column; so at most this many of a mask's 1,048,576 slots.
 const FEW_ROWS: usize = 16_384;
 
 // A shorter mask is walked by each column: the list for few rows has 64 KiB, and clearing it takes about half as long as a walk over so many

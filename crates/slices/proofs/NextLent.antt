@@ -27,11 +27,11 @@ use denote.Triple.Spec.{tripleOf}
 use denote.Triple.Statement.{Contract}
 use denote.Triple.Walked.{says}
 use Rattle.slices.specs.Reader.{Stands, runAt, advanced}
-use Rattle.slots.specs.declared.Run.{Run}
+use Rattle.scan.specs.declared.Run.{Run}
 use Rattle.slices.specs.declared.SlicesIterator.{SlicesIterator}
 use Rattle.slices.proofs.SlicesIterator as T
 use Rattle.slices.proofs.SlicesIterator.Laws as T′
-use Rattle.slots.proofs.Run as R
+use Rattle.scan.proofs.Run as R
 use Rattle.bits.proofs.Lent.{lends-local, local-back, ◐, ◑, Back, lft-below, lft-over}
 use Rattle.slices.proofs.SlicesIterator.next as next
 

@@ -6,9 +6,9 @@ use mathlib.Core.Path.{_≡_, sym, ap, _∙_}
 use Rattle.format.specs.Slots.{All, FirstRun}
 use Rattle.slots.specs.Source.{slotOf}
 use Rattle.slots.specs.declared.Bits.{Bits}
-use Rattle.slots.specs.declared.Run.{Run}
-use Rattle.slots.specs.declared.Run.the-variants.{Span, End}
-use Rattle.slots.proofs.Asked.{first-run, first-end}
+use Rattle.scan.specs.declared.Run.{Run}
+use Rattle.scan.specs.declared.Run.the-variants.{Span, End}
+use Rattle.scan.proofs.Asked.{first-run, first-end}
 use Rattle.slices.specs.declared.Step.{Step}
 use Rattle.slices.specs.Reader.{runFrom, behind, stepOf}
 

@@ -9,8 +9,8 @@ use denote.Steps.{only}
 use denote.Enum.Laws as EL
 use denote.Struct.Laws as LL
 use Rattle.slices.specs.declared.Step.{Step}
-use Rattle.slots.proofs.Run as R
-use Rattle.slots.proofs.Run.Laws as R′
+use Rattle.scan.proofs.Run as R
+use Rattle.scan.proofs.Run.Laws as R′
 use Rattle.slices.proofs.Step as S
 use Rattle.slices.proofs.Step.Laws as S′
 

@@ -3,10 +3,11 @@ use Prim.Native.Nat.{ℕ, _-_}
 use mathlib.Core.List.{List}
 use denote.Ref.{RefT, now}
 use Rattle.format.specs.Slots.{runsFrom}
-use Rattle.slots.specs.Source.{slotOf, Lies, firstRun}
+use Rattle.slots.specs.Source.{slotOf, Lies}
+use Rattle.scan.specs.Asked.{firstRun}
 use Rattle.slots.specs.declared.Bits.{Bits}
-use Rattle.slots.specs.declared.Run.{Run}
-use Rattle.slots.specs.declared.Run.the-variants.{Span, End}
+use Rattle.scan.specs.declared.Run.{Run}
+use Rattle.scan.specs.declared.Run.the-variants.{Span, End}
 use Rattle.slices.specs.declared.Step.{Step}
 use Rattle.slices.specs.declared.SlicesIterator.{SlicesIterator}
 

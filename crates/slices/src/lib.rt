@@ -4,8 +4,8 @@ ghost use lib.ListN.{length};
 ghost use Rattle.format.specs.Slots.{runsFrom};
 ghost use Rattle.slots.specs.Source.{slotOf, Lies};
 ghost use Rattle.slices.specs.Reader.{stepOf, begun, runAt, advanced, Stands};
+use scan::Run;
 use slots::Bits;
-use slots::Run;
 
 // What a scan finds: the next run, and the slot to go on from.
 pub struct Step {
@@ -18,7 +18,7 @@ pub fn step_from(s: &[u8], b: Bits, from: usize) -> Step
     requires { ⌜ Lies (now s) b ⌝ }
     ensures { λ r. ⌜ r ≡ stepOf (now (s .entry)) b from ⌝ }
 {
-    let run = slots::next_run(s, b, from);
+    let run = scan::next_run(s, b, from);
     match run {
         Run::Span(_, e) => Step { run, at: e },
         Run::End => Step { run, at: b.len },

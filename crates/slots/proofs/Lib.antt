@@ -1,5 +1,3 @@
--- Laws of a bit source, of the scan over its words, and of what is asked of its slots.
+-- Laws of a bit source, and of a mask's bits as one.
 pub mod Reading
-pub mod Scan
-pub mod Asked
 pub mod Masked

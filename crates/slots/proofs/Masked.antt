@@ -14,21 +14,13 @@ use Rattle.format.specs.Verdict.{packLimit, rowLimit, wrongSize, wrongTable, wr
 use Rattle.format.specs.Mask.{picked, maskLength, picks, count, edges}
 use Rattle.format.specs.Slots.{picksFrom, runsFrom, startsAndEnds}
 use Rattle.format.proofs.Laws.{any-none, Accepted, accepted-mask}
+use Rattle.format.proofs.Accepted.{or-left, or-right}
 use Rattle.format.proofs.SlotLaws.{picks-ext, runs-ext, chosen-picks, edges-runs}
 use Rattle.slots.specs.Source.{bothSet, slotOf, Lies}
 use Rattle.slots.specs.Node.{bitsOf}
 use Rattle.slots.proofs.Reading.{slot-is}
 
 -- ---- conditions that came out false
-
-or-left : (a b : Bool) → (a || b) ≡ false → a ≡ false
-or-left true b e = e
-or-left false b e = refl
-
-or-right : (a b : Bool) → (a || b) ≡ false → b ≡ false
-or-right true true e = e
-or-right true false e = refl
-or-right false b e = e
 
 not-not : (a : Bool) → not (not a) ≡ a
 not-not true = refl

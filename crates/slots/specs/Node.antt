@@ -1,4 +1,4 @@
--- A pack's bits as a source ("Pack", kind 1; "Predicate": a mask is a pack with such a root). Assumes nothing.
+-- A pack's bits as a source (docs/FORMAT.md, 3.4; 6: a mask is a pack with such a root). Assumes nothing.
 use Prim.Native.Nat.{ℕ}
 use mathlib.Core.Bool.{not}
 use mathlib.Core.List.{List}

@@ -1,14 +1,12 @@
 -- A bit source: packed bits with an optional validity bitmap in a slice of bytes, and what its readers give. Assumes nothing.
-use Prim.Native.Nat.{ℕ, _+_, _-_, _*_, _^_, _≤_, _<_}
+use Prim.Native.Nat.{ℕ, _+_, _*_, _^_, _≤_, _<_}
 use mathlib.Core.Bool.{Bool, true, not, _&&_, _||_}
-use mathlib.Core.List.{List, [], _∷_}
+use mathlib.Core.List.{List}
 use mathlib.Core.Path.{_≡_}
 use lib.ListN.{length}
-use Rattle.format.specs.Bytes.{anyBelow, bitAt}
-use Rattle.format.specs.Slots.{All, upTo, wordFrom}
+use Rattle.format.specs.Bytes.{bitAt}
+use Rattle.format.specs.Slots.{upTo, wordFrom}
 use Rattle.slots.specs.declared.Bits.{Bits}
-use Rattle.slots.specs.declared.Run.{Run}
-use Rattle.slots.specs.declared.Run.the-variants.{Span, End}
 
 -- the value bit of slot i is set, and its validity bit where there is a bitmap: whatever bits stand there
 unfoldable pub bothSet : List ℕ → Bits → ℕ → Bool
@@ -27,18 +25,3 @@ pub record Lies (s : List ℕ) (b : Bits) : Type 0 where
   pub small : length s < 2 ^ 60
   pub values : 8 * b .«values_at» + (b .skip + b .len) ≤ 8 * length s
   pub validity : b .«has_validity» ≡ true → 8 * b .«validity_at» + (b .skip + b .len) ≤ 8 * length s
-
--- the words from `from` up to r are of ones, and slots are left after them
-pub record Ones (p : ℕ → Bool) (from len r : ℕ) : Type 0 where
-  pub low : from ≤ r
-  pub high : 64 * r < len
-  pub all : All p true (64 * from) (64 * r)
-
--- some slot of [lo, hi) passes
-abbrev pub anyIn : (ℕ → Bool) → ℕ → ℕ → Bool
-anyIn p lo hi = anyBelow (λ k. p (lo + k)) (hi - lo)
-
--- the first of a list of runs, as a scan's answer
-abbrev pub firstRun : List (ℕ × ℕ) → Run
-firstRun [] = End
-firstRun (r ∷ rs) = Span (r .0) (r .1)

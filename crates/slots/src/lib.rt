@@ -1,11 +1,10 @@
-// Bit sources: packed bits with an optional validity bitmap in a lent slice of bytes, read by slot, by word and by run.
+// Bit sources: packed bits with an optional validity bitmap in a lent slice of bytes, read by slot, by word and by window, and counted.
 ghost use mathlib.Core.Path.{_≡_};
-ghost use mathlib.Core.Bool.{true};
 ghost use Prim.Native.Nat.{_+_, _*_, _-_, _/_, _%_, _^_, _≤_, _<_};
 ghost use lib.ListN.{length, getD};
 ghost use Rattle.format.specs.Bytes.{bitIn};
-ghost use Rattle.format.specs.Slots.{after, wordFrom, picksFrom, runsFrom, Sought};
-ghost use Rattle.slots.specs.Source.{bothSet, slotOf, wordAt, Lies, Ones, anyIn, firstRun};
+ghost use Rattle.format.specs.Slots.{after, wordFrom, picksFrom};
+ghost use Rattle.slots.specs.Source.{bothSet, slotOf, wordAt, Lies};
 
 // Where a source's bits stand in a slice: places are in bytes, skip and len in slots.
 pub struct Bits {
@@ -14,12 +13,6 @@ pub struct Bits {
     pub validity_at: usize,
     pub skip: usize,
     pub len: usize,
-}
-
-// The next maximal run of picked slots, [start, end).
-pub enum Run {
-    Span(usize, usize),
-    End,
 }
 
 // Byte j of a slice, 0 past its end.
@@ -233,125 +226,4 @@ pub fn count(s: &[u8], b: Bits) -> usize
         w += 1;
     }
     n
-}
-
-// A word whose slots are all picked.
-pub const ONES: u64 = 0xFFFF_FFFF_FFFF_FFFF;
-
-// The word at which the words of ones from word `from` on end. The last two words are not looked at: they need not be whole.
-pub fn ones_end(s: &[u8], b: Bits, from: usize) -> usize
-    requires { ⌜ Lies (now s) b ⌝ }
-    requires { ⌜ 64 * from < b .len ⌝ }
-    ensures { λ r. ⌜ Ones (slotOf (now (s .entry)) b) from (b .len) r ⌝ }
-{
-    let len = b.len;
-    let mut w = from;
-    while 64 * w + 128 <= len {
-        if word_in(s, b, w) != ONES {
-            return w;
-        }
-        w += 1;
-    }
-    w
-}
-
-// The next maximal run of picked slots at or after `from`.
-pub fn next_run(s: &[u8], b: Bits, from: usize) -> Run
-    requires { ⌜ Lies (now s) b ⌝ }
-    ensures { λ r. ⌜ r ≡ firstRun (runsFrom (slotOf (now (s .entry)) b) (b .len - from) from) ⌝ }
-{
-    if b.len <= from {
-        return Run::End;
-    }
-    let mut w = from / 64;
-    // What is left of word w: its set bits at or after e.
-    let mut x = word_after(s, b, from);
-    // The run so far, [a, e); none yet where a is e.
-    let mut a = from;
-    let mut e = from;
-    let end = 'words: loop {
-        while x != 0 {
-            let k = 64 * w + u64::trailing_zeros(x) as usize;
-            if a == e {
-                a = k;
-            } else if k != e {
-                break 'words e;
-            }
-            e = k + 1;
-            x = x & std::num::wrapping_sub_u64(x, 1);
-        }
-        w += 1;
-        if b.len <= 64 * w {
-            break e;
-        }
-        if a < e {
-            if e < 64 * w {
-                break e;
-            }
-            // The run goes on: whole words of it are passed at once.
-            w = ones_end(s, b, w);
-            e = 64 * w;
-        }
-        x = word(s, b, w);
-    };
-    if a < end { Run::Span(a, end) } else { Run::End }
-}
-
-// The first picked slot of [from, end), or end where there is none. No word past end's is looked at.
-pub fn next_row(s: &[u8], b: Bits, from: usize, end: usize) -> usize
-    requires { ⌜ Lies (now s) b ⌝ }
-    requires { ⌜ (from ≤ end) × (end ≤ b .len) ⌝ }
-    ensures { λ r. ⌜ Sought (slotOf (now (s .entry)) b) from end true r ⌝ }
-{
-    if end <= from {
-        return end;
-    }
-    let mut w = from / 64;
-    let mut x = word_after(s, b, from);
-    while x == 0 {
-        w += 1;
-        if end <= 64 * w {
-            return end;
-        }
-        x = word(s, b, w);
-    }
-    let k = 64 * w + u64::trailing_zeros(x) as usize;
-    if k < end { k } else { end }
-}
-
-// Whether any slot of [lo, hi) is picked.
-pub fn any_picked(s: &[u8], b: Bits, lo: usize, hi: usize) -> bool
-    requires { ⌜ Lies (now s) b ⌝ }
-    ensures { λ r. ⌜ r ≡ anyIn (slotOf (now (s .entry)) b) lo hi ⌝ }
-{
-    let end = if hi < b.len { hi } else { b.len };
-    if end <= lo {
-        return false;
-    }
-    next_row(s, b, lo, end) < end
-}
-
-// Whether any slot of [lo, hi) is picked, where the range lies in the source: a range of fewer than 64 slots is one word.
-pub fn any_within(s: &[u8], b: Bits, lo: usize, hi: usize) -> bool
-    requires { ⌜ Lies (now s) b ⌝ }
-    requires { ⌜ (lo ≤ hi) × (hi ≤ b .len) ⌝ }
-    ensures { λ r. ⌜ r ≡ anyIn (slotOf (now (s .entry)) b) lo hi ⌝ }
-{
-    let len = b.len;
-    if hi - lo < 64 {
-        if lo + 72 <= len {
-            return window_in(s, b, lo, hi - lo) != 0;
-        }
-    }
-    any_picked(s, b, lo, hi)
-}
-
-// `any_within` where the slots are at most 57 and no read can leave the slice: small enough to be compiled into its callers' loops, which
-// choose between the two.
-pub fn any_short(s: &[u8], b: Bits, lo: usize, hi: usize) -> bool
-    requires { ⌜ Lies (now s) b ⌝ }
-    requires { ⌜ (lo ≤ hi) × (hi - lo ≤ 57) × (lo + 64 ≤ b .len) ⌝ }
-    ensures { λ r. ⌜ r ≡ anyIn (slotOf (now (s .entry)) b) lo hi ⌝ }
-{
-    window57_in(s, b, lo, hi - lo) != 0
 }

@@ -1,36 +1,25 @@
 -- The lowest run of set bits: the lowest bit added to the word, the carry clears the run and sets the bit above it. Assumes nothing.
-use Prim.Native.Nat.{ℕ, zero, suc, _+_, _-_, _*_, _/_, _%_, _^_, _≤_, _<_, min}
-use mathlib.Core.Bool.{Bool, true, false}
-use mathlib.Core.List.{List, [], _∷_, _++_}
-use mathlib.Core.Logic.{_⊎_, inl, inr, ⊎-elim, dite}
-use mathlib.Core.Path.{_≡_, refl, sym, ap, _∙_}
+use Prim.Native.Nat.{ℕ, zero, suc, _+_, _-_, _*_, _/_, _%_, _^_, _≤_, _<_}
+use mathlib.Core.Bool.{false}
+use mathlib.Core.List.{_∷_, _++_}
+use mathlib.Core.Logic.{_⊎_, ⊎-elim, dite}
+use mathlib.Core.Path.{_≡_, refl, ap, _∙_}
 use native.Mathlib.Decide.{decLt}
-use native.Mathlib.Nat.{zero-min, min-zero, mod-lt, mod-eq-of-lt, pow-suc, zero-lt-suc, add-zero}
-use native.Mathlib.Numerals.{add-one}
+use native.Mathlib.Nat.{zero-min, min-zero, mod-eq-of-lt, zero-lt-suc, add-zero}
 use native.Mathlib.Omega.{arith}
 use lib.Arith.{lt-one}
-use lib.Bits.{bitAnd, and-step, and-self, and-le-l, and-le-r}
+use lib.Bits.{bitAnd, and-step, and-self, and-le-l}
 use lib.Count.{trailingZeros, trailing-le}
 use lib.ListN.{length, length-append}
 use lib.Pow.{mod-pow-add}
 use Rattle.format.specs.Bytes.{one}
 use Rattle.format.specs.Rows.{setRows, Below, more}
 use Rattle.format.specs.Slots.{countUp}
-use Rattle.format.specs.Words.{odd, lowBits, gather}
+use Rattle.format.specs.Words.{lowBits, gather}
 use Rattle.format.proofs.RowLaws.{below-left, below-right}
 use Rattle.format.proofs.SlotLaws.{length-up}
-use Rattle.format.proofs.WordLaws.{bits-above, odd-below}
+use Rattle.format.proofs.WordLaws.{parity, half-lt, bits-above, odd-below}
 use Rattle.words.specs.Run.{LowestRun}
-
-parity : (x : ℕ) → (x % 2 ≡ 0) ⊎ (x % 2 ≡ 1)
-parity x = go (x % 2) (mod-lt x (zero-lt-suc 1))
-  where
-    go : (r : ℕ) → r < 2 → (r ≡ 0) ⊎ (r ≡ 1)
-    go zero h = inl refl
-    go (suc r) h = inr (omega arith)
-
-half-lt : (x k : ℕ) → x < 2 ^ suc k → x / 2 < 2 ^ k
-half-lt x k h = let l : x < 2 ^ k * 2 = rw pow-suc at h in omega arith
 
 -- a number cut to n + 1 bits: its half, and its lowest bit
 cut : (n x y : ℕ) → y ≡ x % 2 ^ suc n → (y / 2 ≡ x / 2 % 2 ^ n) × (y % 2 ≡ x % 2)

@@ -1,3 +1,2 @@
--- The laws of moves that overlap, and of a word's lowest run.
-pub mod Overlap
+-- The laws of a word's lowest run.
 pub mod Carry

@@ -15,7 +15,7 @@ use Rattle.format.specs.Write.{numbers, written, extract, noColumn, noNode}
 use Rattle.format.proofs.Laws.{getD-table, kept-at}
 use Rattle.format.proofs.Numbers.{numbers-append}
 use Rattle.format.proofs.Put.{put-parts, length-put, none, then, named}
-use Rattle.measure.proofs.Sizes.{extract-length}
+use Rattle.format.proofs.Measure.{length-extract}
 use Rattle.nodes.specs.Body.{nodeBody, nodeFields}
 use Rattle.nodes.proofs.BodyLaws.{body-more, fields-more}
 use Rattle.body.specs.Written.{columnOf, Written}
@@ -63,7 +63,7 @@ module _ (b root : List ℕ) where
   -- the body of the first nodes ends in the extract
   pub body-inside : (i : ℕ) → i ≤ nodeCount b → length (written (columns b) (keptPart b root) i .body) ≤ length (extract b root)
   unfolding raised
-  body-inside i l = omega (arith, rises (columns b) (keptPart b root) i (nodeCount b) l, extract-length b root)
+  body-inside i l = omega (arith, rises (columns b) (keptPart b root) i (nodeCount b) l, length-extract b root)
 
 -- nothing is written yet
 pub nodes-none : {b root old : List ℕ} {at : ℕ} {fields : List ℕ} → at ≡ 0 → length fields ≡ 640 → NodesTo b root 0 old old at fields

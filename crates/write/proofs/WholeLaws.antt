@@ -10,11 +10,11 @@ use Rattle.format.specs.Node.{nodeCount, mark}
 use Rattle.format.specs.Put.{Wrote}
 use Rattle.format.specs.Kept.{columns, keptNode, keptPart, keptRows, KeptNode}
 use Rattle.format.specs.Write.{numbers, written, write, extract, noNode}
-use Rattle.format.proofs.Laws.{length-table, kept-at}
+use Rattle.format.proofs.Laws.{kept-at}
 use Rattle.format.proofs.Put.{then, named, same-size, wrote-front}
 use Rattle.append.specs.Cells.{padding}
 use Rattle.append.proofs.CellLaws.{padded-is}
-use Rattle.measure.proofs.Sizes.{extract-length}
+use Rattle.format.proofs.Measure.{length-columns, length-extract}
 use Rattle.buffers.proofs.PutLaws.{pad-ends}
 use Rattle.write.specs.Nodes.{NodesTo}
 
@@ -27,13 +27,9 @@ joined b root n =
     ++ numbers 4 (raised (length (w .body)) ∷ n ∷ length (getD (keptPart b root) 0 noNode .marks) ∷ mark ∷ [])
 
 module _ (b root : List ℕ) where
-  length-columns : length (columns b) ≡ nodeCount b
-  unfolding columns
-  length-columns = length-table _ (nodeCount b)
-
   by-count : joined b root (nodeCount b) ≡ extract b root
   unfolding joined extract write
-  by-count = ap (joined b root) (sym length-columns)
+  by-count = ap (joined b root) (sym (length-columns b root))
 
   root-rows : 1 ≤ nodeCount b → length (getD (keptPart b root) 0 noNode .marks) ≡ length (keptRows b root 0)
   unfolding keptNode
@@ -54,7 +50,7 @@ module _ {b root old first : List ℕ} {end : ℕ} {fields : List ℕ} (h : Node
   ends-at = omega (arith, h .body .place)
 
   size : raised end + 40 * nodeCount b + 16 ≡ length old
-  size = rw ends-at (sym (extract-length b root) ∙ fit)
+  size = rw ends-at (sym (length-extract b root) ∙ fit)
 
   pub pad-fits : end + length (padding end) ≤ length first
   pad-fits = omega (arith, pad-ends end, size, same-size (h .body))

@@ -17,7 +17,7 @@ use nesting::table::node_count;
 use predicate::Selection;
 use slots::Bits;
 
-// The last number of a trailer: the bytes 43 4F 4C 50 ("Pack").
+// The last number of a trailer: the bytes 43 4F 4C 50 (docs/FORMAT.md, 3.1).
 const MARK: u32 = 0x504C_4F43;
 
 // The buffers of all nodes, from the front of the output, and their fields. Where the body ends.

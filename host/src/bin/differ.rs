@@ -1,4 +1,4 @@
-//! Differential runs: the model of document 01 against arrow-select's filter.rs, and, with the feature `port`, against the port.
+//! Differential runs: the model of the specification against arrow-select's filter.rs, and, with the feature `port`, against the port.
 //!
 //!     differ                      all of the below, small
 //!     differ random SEED COUNT    random packs, good and damaged
@@ -7,7 +7,7 @@
 //!     differ boundaries SEED ROUNDS  masks around each boundary of length and count, on columns of every kind
 //!     differ long SEED ROUNDS     masks of 65,535 slots and more, few to nearly all picked, on columns of every kind
 //!     differ list SEED COUNT FOLDER  writes random calls and what they give, for the program `replay`, as FOLDER/stdin and stdout
-//!     differ paper                the paper's bench cases and refusal examples, and packs at its limits
+//!     differ paper                the specification's bench cases and refusal examples, and packs at its limits
 //!
 //! The last line is 'N passed, M failed'. The smallest failing input of each run is printed in hex.
 use host::compare::{self, Journal};
@@ -315,7 +315,7 @@ fn list(seed: u64, count: u64, folder: &str) -> Tally {
     tally
 }
 
-/// The paper's own cases and its limits, with the answers that it gives.
+/// The specification's own cases and its limits, with the answers that it gives.
 fn paper() -> Tally {
     let mut tally = Tally::default();
     let port = port();

@@ -7,7 +7,8 @@ use mir.Val.{boolByte}
 use native.Mathlib.Omega.{arith}
 use borrow.Author.Tests.{leb-true}
 use Rattle.format.specs.Slots.{wordFrom}
-use Rattle.slots.specs.Source.{slotOf, anyIn}
+use Rattle.slots.specs.Source.{slotOf}
+use Rattle.scan.specs.Asked.{anyIn}
 use Rattle.nesting.specs.Rows.{keeps, picksOf, edge}
 use Rattle.nesting.proofs.RunEdges.{edge-last}
 use Rattle.fill.proofs.Packing.{word-none, word-byte, word-next}

@@ -6,7 +6,7 @@ use borrow.Author.Needs.{needs}
 use Rattle.format.specs.Slots.{wordFrom, after}
 use Rattle.format.proofs.WordLaws.{from-clear}
 use Rattle.slots.specs.Source.{slotOf}
-use Rattle.slots.proofs.Scan.{Scanned, starts, passed, fresh}
+use Rattle.scan.proofs.Scan.{Scanned, starts, passed, fresh}
 use Rattle.predicate.specs.Blocks.{Found}
 use Rattle.predicate.proofs.Picks.{picks-over}
 use Rattle.predicate.proofs.WordRuns.{worded-on}

@@ -6,7 +6,7 @@ use borrow.Author.Needs.{needs}
 use lib.Count.{trailingZeros, trailing-le}
 use Rattle.slots.specs.Source.{slotOf}
 use Rattle.slots.proofs.Reading.{slot-past}
-use Rattle.slots.proofs.Scan.{Hit}
+use Rattle.scan.proofs.Scan.{Hit}
 use Rattle.predicate.proofs.WordRuns.{run-leaves, first-row, found-word, found-on, found-run, end-near, end-after}
 use Rattle.predicate.proofs.word_block.Statement.{statement}
 use Rattle.predicate.proofs.word_block.Tie as tie

@@ -72,18 +72,19 @@ below c =
     let i = c .before .before .before .before .loop .inv in
     omega (arith, few c, order (c .before), i .1)
 
-put-number-requires : tie.Need-put-number-requires Inv-loop μ-loop
-put-number-requires c κs =
+put-end-requires : tie.Need-put-end-requires Inv-loop μ-loop
+put-end-requires c κs =
     let k = c .before .before in
     let l = k .before .before .before .before in
-    grouped-room (l .loop .inv .3) (sized k) (c .before .if1 .taken) _ (k .before .before .before .loop-test .taken) (l .before .before .before .before .pre .1 .1)
+    let pre = l .before .before .before .before .pre in
+    (pre .0 .width, grouped-room (l .loop .inv .3) (sized k) (c .before .if1 .taken) _ (k .before .before .before .loop-test .taken) (pre .1 .1))
 
 loop-again : tie.Need-loop-again Inv-loop μ-loop
 loop-again c =
     let k = c .before .before .before .before .before in
     let l = k .before .before .before .before in
     let t = k .before .before .before .loop-test .taken in
-    (omega arith, below k, starting (k .before), grouped-hit (l .loop .inv .3) (sized k) (c .before .before .before .before .if1 .taken) (c .before .before .put-number .ensures))
+    (omega arith, below k, starting (k .before), grouped-hit (l .loop .inv .3) (sized k) (c .before .before .before .before .if1 .taken) (c .before .before .put-end .ensures))
 
 loop-again-2 : tie.Need-loop-again-2 Inv-loop μ-loop
 loop-again-2 c =
@@ -112,7 +113,7 @@ ends-kept-spec =
     (λ c κs. (c .before .before .before .before .before .before .before .pre .1 .0, (order c, omega (arith, ending c))))
     (λ c. omega arith)
     (λ c. omega (arith, below (c .before), ending (c .before .before)))
-    put-number-requires
+    put-end-requires
     (λ c. omega arith)
     loop-again
     (λ c. omega arith)

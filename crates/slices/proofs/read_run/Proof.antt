@@ -42,15 +42,15 @@ use denote.Exit.{yes}
 use Rattle.slots.specs.Source.{Lies}
 use Rattle.slices.specs.Reader.{stepOf, advanced}
 use Rattle.slots.specs.declared.Bits.{Bits}
-use Rattle.slots.specs.declared.Run.{Run}
+use Rattle.scan.specs.declared.Run.{Run}
 use Rattle.slices.specs.declared.SlicesIterator.{SlicesIterator}
 use Rattle.slices.specs.declared.Step.{Step}
 use Rattle.slices.proofs.SlicesIterator as T
 use Rattle.slices.proofs.SlicesIterator.Laws as T′
 use Rattle.slots.proofs.Bits as B
 use Rattle.slots.proofs.Bits.Laws as B′
-use Rattle.slots.proofs.Run as R
-use Rattle.slots.proofs.Run.Laws as R′
+use Rattle.scan.proofs.Run as R
+use Rattle.scan.proofs.Run.Laws as R′
 use Rattle.slices.proofs.Step as S
 use Rattle.slices.proofs.Step.Laws as S′
 use Rattle.slices.proofs.NextLent.{I, Next, to, kept, lend, had, back}

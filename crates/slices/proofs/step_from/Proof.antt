@@ -4,8 +4,8 @@ use mathlib.Core.List.{List}
 use mathlib.Core.Path.{_≡_, sym, ap, _∙_}
 use borrow.Author.Needs.{needs}
 use Rattle.slots.specs.declared.Bits.{Bits}
-use Rattle.slots.specs.declared.Run.{Run}
-use Rattle.slots.specs.declared.Run.the-variants.{Span, End}
+use Rattle.scan.specs.declared.Run.{Run}
+use Rattle.scan.specs.declared.Run.the-variants.{Span, End}
 use Rattle.slices.specs.declared.Step.{Step}
 use Rattle.slices.specs.Reader.{runFrom, behind, stepOf}
 use Rattle.slices.proofs.step_from.Statement.{statement}

@@ -1,6 +1,6 @@
 //! What a Rust program does before it may build arrays from bytes that came from elsewhere: the content rules of arrow-data's
 //! `validate_full`, as plain loops over the buffers. Offsets, views, list views, run ends, ids, keys; nulls are counted. Bytes are not
-//! UTF-8 here, and a view's prefix and padding are not looked at: document 01 has no such rule.
+//! UTF-8 here, and a view's prefix and padding are not looked at: the format has no such rule.
 use host::pack::*;
 
 /// How the tests of a loop are joined.

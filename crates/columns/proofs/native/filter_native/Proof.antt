@@ -1,84 +1,136 @@
--- `columns::native::filter_native` meets its contract: what the loop of its width does. Assumes nothing.
+-- `columns::native::filter_native` meets its contract. What is left to write are the entries of the rows from the cursor's place on; each arm writes a block's. Assumes nothing.
+use Prim.Native.Nat.{_-_}
+use mathlib.Core.Path.{refl}
+use native.Mathlib.Omega.{arith}
 use borrow.Author.Needs.{needs}
+use Rattle.predicate.specs.Selection.{keptBy}
+use Rattle.predicate.proofs.Steps.{falls}
+use Rattle.append.specs.Cells.{entriesOf}
+use Rattle.append.proofs.CellLaws.{words-one}
+use Rattle.columns.proofs.Walk.{Walked, walk-none, walk-more, walk-done, walk-same}
+use Rattle.columns.proofs.Passing.{walk-fits, walk-on}
+use Rattle.columns.proofs.EntryWalk.{entries-cut, run-needs, word-needs, list-needs}
 use Rattle.columns.proofs.native.filter_native.Statement.{statement}
 use Rattle.columns.proofs.native.filter_native.Tie as tie
 
-filter-native8-requires : tie.Need-filter-native8-requires
-filter-native8-requires c κs =
-    let h = c .before .before .before .before .before .before .pre in
-    let same = c .before .if1 .taken in
-    (h .0, (h .1 .0, (rw same at (h .1 .1 .0), rw same at (h .1 .1 .1))))
+abbrev Inv-loop : tie.InvT-loop
+Inv-loop out₀ at journal first width sel s mask list here₀ cur₀ out here cur =
+    Walked (entriesOf width journal first) sel (keptBy sel s mask) (mask .len) list out₀ at out here cur
 
-returns : tie.Need-returns
-returns c = rw (c .before .before .before .before .if1 .taken) (c .before .before .filter-native8 .ensures)
+abbrev μ-loop : tie.MeasureT-loop
+μ-loop out₀ at journal first width sel s mask list here₀ cur₀ out here cur = mask .len - cur .place
 
-filter-native4-requires : tie.Need-filter-native4-requires
-filter-native4-requires c κs =
-    let h = c .before .before .before .before .before .before .before .pre in
-    let same = c .before .if2 .taken in
-    (h .0, (h .1 .0, (rw same at (h .1 .1 .0), rw same at (h .1 .1 .1))))
+next-block-requires : tie.Need-next-block-requires Inv-loop μ-loop
+next-block-requires c κs = (c .before .before .before .before .before .pre .0, c .loop .inv .step)
 
-returns-2 : tie.Need-returns-2
-returns-2 c = rw (c .before .before .before .before .if2 .taken) (c .before .before .filter-native4 .ensures)
+copy-rows-requires : tie.Need-copy-rows-requires Inv-loop μ-loop
+copy-rows-requires c κs =
+    let t = c .before .before .before .before in
+    let h = t .before .before .before .before .before .before .pre .1 .1 in
+    run-needs (t .before .loop .inv) (h .0) (h .1) (rw (c .before .before .a .given .1) at (t .next-block .ensures))
 
-filter-native16-requires : tie.Need-filter-native16-requires
-filter-native16-requires c κs =
-    let h = c .before .before .before .before .before .before .before .before .pre in
-    let same = c .before .if3 .taken in
-    (h .0, (h .1 .0, (rw same at (h .1 .1 .0), rw same at (h .1 .1 .1))))
+pass-runs-requires : tie.Need-pass-runs-requires Inv-loop μ-loop
+pass-runs-requires c κs =
+    let k = c .before in
+    let t = k .before .before .before .before .before .before .before in
+    let h = t .before .before .before .before .before .before .pre in
+    let g = rw (k .before .before .before .before .before .a .given .1) at (t .next-block .ensures) in
+    let w = walk-more (t .before .loop .inv) (entries-cut _ _ _) (g .2) (k .before .before .copy-rows .ensures) in
+    (h .0, (w .step, (h .1 .1 .0, walk-fits (entries-cut _ _ _) w (h .1 .1 .1))))
 
-returns-3 : tie.Need-returns-3
-returns-3 c = rw (c .before .before .before .before .if3 .taken) (c .before .before .filter-native16 .ensures)
+loop-less : tie.Need-loop-less Inv-loop μ-loop
+loop-less c =
+    let k = c .before .before .before .before .before in
+    let t = k .before .before .before .before .before .before .before in
+    let g = rw (k .before .before .before .before .before .a .given .1) at (t .next-block .ensures) in
+    let q = c .before .before .before .pass-runs .ensures in
+    omega (arith, falls (g .2), q .on, q .step .inside)
 
-filter-native2-requires : tie.Need-filter-native2-requires
-filter-native2-requires c κs =
-    let h = c .before .before .before .before .before .before .before .before .before .pre in
-    let same = c .before .if4 .taken in
-    (h .0, (h .1 .0, (rw same at (h .1 .1 .0), rw same at (h .1 .1 .1))))
+loop-again : tie.Need-loop-again Inv-loop μ-loop
+loop-again c =
+    let k = c .before .before .before .before .before in
+    let t = k .before .before .before .before .before .before .before in
+    let g = rw (k .before .before .before .before .before .a .given .1) at (t .next-block .ensures) in
+    let w = walk-more (t .before .loop .inv) (entries-cut _ _ _) (g .2) (k .before .before .copy-rows .ensures) in
+    walk-on (entries-cut _ _ _) w (c .before .before .before .pass-runs .ensures)
 
-returns-4 : tie.Need-returns-4
-returns-4 c = rw (c .before .before .before .before .if4 .taken) (c .before .before .filter-native2 .ensures)
+gather-words-requires : tie.Need-gather-words-requires Inv-loop μ-loop
+gather-words-requires c κs =
+    let t = c .before .before .before .before .before in
+    let h = t .before .before .before .before .before .before .pre .1 .1 in
+    let g = rw (c .before .before .before .base .given .1) at (t .next-block .ensures) in
+    (omega (arith, g .0, h .0 .small), rw words-one (word-needs (t .before .loop .inv) (h .0) (h .1) g))
 
-filter-native1-requires : tie.Need-filter-native1-requires
-filter-native1-requires c κs =
-    let h = c .before .before .before .before .before .before .before .before .before .before .pre in
-    let same = c .before .if5 .taken in
-    (h .0, (h .1 .0, (rw same at (h .1 .1 .0), rw same at (h .1 .1 .1))))
+pass-words-requires : tie.Need-pass-words-requires Inv-loop μ-loop
+pass-words-requires c κs =
+    let k = c .before in
+    let t = k .before .before .before .before .before .before .before .before in
+    let h = t .before .before .before .before .before .before .pre in
+    let g = rw (k .before .before .before .before .before .before .base .given .1) at (t .next-block .ensures) in
+    let w = walk-more (t .before .loop .inv) (entries-cut _ _ _) (g .1) (rw words-one at (k .before .before .gather-words .ensures)) in
+    (h .0, (w .step, (h .1 .1 .0, walk-fits (entries-cut _ _ _) w (h .1 .1 .1))))
 
-returns-5 : tie.Need-returns-5
-returns-5 c = rw (c .before .before .before .before .if5 .taken) (c .before .before .filter-native1 .ensures)
+loop-less-2 : tie.Need-loop-less-2 Inv-loop μ-loop
+loop-less-2 c =
+    let k = c .before .before .before .before .before in
+    let t = k .before .before .before .before .before .before .before .before in
+    let g = rw (k .before .before .before .before .before .before .base .given .1) at (t .next-block .ensures) in
+    let q = c .before .before .before .pass-words .ensures in
+    omega (arith, falls (g .1), q .on, q .step .inside)
 
-filter-native32-requires : tie.Need-filter-native32-requires
-filter-native32-requires c κs =
-    let h = c .before .before .before .before .before .before .before .before .before .before .before .pre in
-    let same = c .before .if6 .taken in
-    (h .0, (h .1 .0, (rw same at (h .1 .1 .0), rw same at (h .1 .1 .1))))
+loop-again-2 : tie.Need-loop-again-2 Inv-loop μ-loop
+loop-again-2 c =
+    let k = c .before .before .before .before .before in
+    let t = k .before .before .before .before .before .before .before .before in
+    let g = rw (k .before .before .before .before .before .before .base .given .1) at (t .next-block .ensures) in
+    let w = walk-more (t .before .loop .inv) (entries-cut _ _ _) (g .1) (rw words-one at (k .before .before .gather-words .ensures)) in
+    walk-on (entries-cut _ _ _) w (c .before .before .before .pass-words .ensures)
 
-returns-6 : tie.Need-returns-6
-returns-6 c = rw (c .before .before .before .before .if6 .taken) (c .before .before .filter-native32 .ensures)
+gather-list-requires : tie.Need-gather-list-requires Inv-loop μ-loop
+gather-list-requires c κs =
+    let t = c .before .before .before .before in
+    let h = t .before .before .before .before .before .before .pre .1 .1 in
+    list-needs (t .before .loop .inv) (h .0) (h .1) (rw (c .before .before .i .given .1) at (t .next-block .ensures))
+
+loop-less-3 : tie.Need-loop-less-3 Inv-loop μ-loop
+loop-less-3 c =
+    let t = c .before .before .before .before .before .before .before in
+    let g = rw (c .before .before .before .before .before .i .given .1) at (t .next-block .ensures) in
+    falls (g .2)
+
+loop-again-3 : tie.Need-loop-again-3 Inv-loop μ-loop
+loop-again-3 c =
+    let t = c .before .before .before .before .before .before .before in
+    let g = rw (c .before .before .before .before .before .i .given .1) at (t .next-block .ensures) in
+    walk-more (t .before .loop .inv) (entries-cut _ _ _) (g .2) (c .before .before .gather-list .ensures)
+
+returns : tie.Need-returns Inv-loop μ-loop
+returns c =
+    walk-done (c .before .before .before .loop .inv) (entries-cut _ _ _) (rw (c .enum-told .given .1) at (c .before .before .next-block .ensures))
 
 pub filter-native-spec : {M : Type 1} → statement M
 filter-native-spec =
     tie.close
     (tie.spec
-    filter-native8-requires
+    Inv-loop
+    μ-loop
+    (λ c. walk-none (c .before .before .before .before .pre .1 .0))
+    next-block-requires
     (λ c. search needs)
-    returns
-    filter-native4-requires
+    copy-rows-requires
+    pass-runs-requires
+    loop-less
+    loop-again
     (λ c. search needs)
-    returns-2
-    filter-native16-requires
+    (λ c. refl)
+    gather-words-requires
+    pass-words-requires
+    loop-less-2
+    loop-again-2
     (λ c. search needs)
-    returns-3
-    filter-native2-requires
+    gather-list-requires
+    loop-less-3
+    loop-again-3
     (λ c. search needs)
-    returns-4
-    filter-native1-requires
-    (λ c. search needs)
-    returns-5
-    filter-native32-requires
-    (λ c. search needs)
-    returns-6
-    (λ c κs. search needs)
-    (λ c. search needs)
-    (λ c. search needs))
+    (λ c. walk-same (c .before .before .before .loop .inv))
+    returns)

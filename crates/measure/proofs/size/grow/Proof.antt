@@ -1,7 +1,7 @@
 -- `measure::size::grow` meets its contract. Assumes nothing.
 use native.Mathlib.Omega.{arith}
 use Rattle.format.specs.Bytes.{raised}
-use Rattle.measure.specs.Size.{grownIf}
+use Rattle.format.specs.Size.{grownIf}
 use borrow.Author.Needs.{needs}
 use Rattle.measure.proofs.size.grow.Statement.{statement}
 use Rattle.measure.proofs.size.grow.Tie as tie

@@ -8,7 +8,8 @@ use borrow.Author.Tests.{leb-true}
 use lib.ListN.{length}
 use Rattle.format.specs.Bytes.{chosen}
 use Rattle.format.specs.Node.{rows}
-use Rattle.slots.specs.Source.{slotOf, anyIn}
+use Rattle.slots.specs.Source.{slotOf}
+use Rattle.scan.specs.Asked.{anyIn}
 use Rattle.nesting.specs.Rows.{edge}
 use Rattle.nesting.proofs.Sieve.{byte-small, count-more, count-none}
 use Rattle.nesting.proofs.RunEdges.{few, runs-are, runs-small, edge-first, edge-last, edge-rises, runPicked, kept-picked}

@@ -51,8 +51,8 @@ use Rattle.slices.specs.declared.Step.{Step}
 use Rattle.slices.proofs.SlicesIterator as T
 use Rattle.slices.proofs.SlicesIterator.Laws as T′
 use Rattle.slots.proofs.Bits.Laws as B′
-use Rattle.slots.proofs.Run as R
-use Rattle.slots.proofs.Run.Laws as R′
+use Rattle.scan.proofs.Run as R
+use Rattle.scan.proofs.Run.Laws as R′
 use Rattle.slices.proofs.Step as S
 use Rattle.slices.proofs.Step.Laws as S′
 use Rattle.slices.proofs.StepLaws.{spelled, run-is, at-fits}

@@ -1,0 +1,2 @@
+-- The laws of moves that overlap.
+pub mod Overlap

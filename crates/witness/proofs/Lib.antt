@@ -1,0 +1,2 @@
+-- Calls that meet the premises of the theorems, by function.
+pub mod Filter
