@@ -17,11 +17,11 @@ use measure::scratch_needed;
 use nesting::table::table_of;
 use pack::read::node_at;
 use pack::tree::parents_of;
-use predicate::list_entries;
 use prepare::mask_bits;
 use prepare::wrong_count;
 use select::select_and_write;
 use slots::Bits;
+use stored_list::list_entries;
 
 // An extract of more bytes than a pack may have is refused (docs/FORMAT.md, 3.1: at most 16,777,216 bytes).
 const PACK_LIMIT: usize = 16_777_216;

@@ -8,9 +8,9 @@ use format::Pack;
 use format::Prepared;
 use format::Route;
 use pack::read::node_at;
-use predicate::list_entries;
-use predicate::store_list;
 use slots::Bits;
+use stored_list::list_entries;
+use stored_list::store_list;
 
 // Validity at this place: no bitmap.
 const NO_BITMAP: u32 = 0xFFFF_FFFF;

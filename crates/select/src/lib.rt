@@ -18,8 +18,8 @@ use format::Route;
 use predicate::Held;
 use predicate::Selection;
 use predicate::selection_of;
-use predicate::store_list;
 use slots::Bits;
+use stored_list::store_list;
 use write::write_extract;
 
 // Rows are few where at most one in 64 slots is picked, as docs/FORMAT.md (6) has it of a bitmap column; so at most this many of a mask's 1,048,576 slots.

@@ -1,4 +1,4 @@
--- `predicate::store_last` meets its contract: one word, or two. Assumes nothing.
+-- `stored_list::store_last` meets its contract: one word, or two. Assumes nothing.
 use Prim.Native.Nat.{_+_, _*_}
 use mathlib.Core.List.{_++_}
 use mathlib.Core.Path.{_≡_, refl, ap, _∙_}
@@ -9,10 +9,10 @@ use Rattle.format.specs.Slots.{wordFrom}
 use Rattle.format.proofs.Put.{Left, whole, less, room, done}
 use Rattle.slots.specs.Source.{slotOf}
 use Rattle.slots.proofs.Reading.{slot-past}
 use Rattle.predicate.specs.Selection.{picksOn}
 use Rattle.predicate.proofs.Picks.{picks-over, picks-whole, word-below}
-use Rattle.predicate.proofs.store_last.Statement.{statement}
-use Rattle.predicate.proofs.store_last.Tie as tie
+use Rattle.stored_list.proofs.store_last.Statement.{statement}
+use Rattle.stored_list.proofs.store_last.Tie as tie
 
 -- the first word's rows, and those after it
 first-off : (c : tie.After-word) →

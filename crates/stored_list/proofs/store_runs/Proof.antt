@@ -1,4 +1,4 @@
--- `predicate::store_runs` meets its contract. What is left to store are the starts and ends of the runs from `place` on. Assumes nothing.
+-- `stored_list::store_runs` meets its contract. What is left to store are the starts and ends of the runs from `place` on. Assumes nothing.
 use Prim.Native.Nat.{_+_, _-_, _≤_}
 use mathlib.Core.List.{[], _∷_}
 use mathlib.Core.Path.{_≡_, refl}
@@ -9,10 +9,10 @@ use Rattle.format.specs.Slots.{runsFrom, startsAndEnds, FirstRun}
 use Rattle.format.proofs.Put.{Left, whole, stored, room, done, kept}
 use Rattle.slots.specs.Source.{slotOf}
 use Rattle.slices.proofs.Reading.{step-run, step-at, step-end}
 use Rattle.predicate.specs.Selection.{edgesOn}
 use Rattle.predicate.proofs.Picks.{edges-start, edges-run, edges-end}
-use Rattle.predicate.proofs.store_runs.Statement.{statement}
-use Rattle.predicate.proofs.store_runs.Tie as tie
+use Rattle.stored_list.proofs.store_runs.Statement.{statement}
+use Rattle.stored_list.proofs.store_runs.Tie as tie
 
 abbrev Inv-loop : tie.InvT-loop
 Inv-loop s b list₀ here₀ place₀ list here place =

@@ -1,11 +1,11 @@
--- `predicate::list_entries` meets its contract: a run has two entries. Assumes nothing.
+-- `stored_list::list_entries` meets its contract: a run has two entries. Assumes nothing.
 use mathlib.Core.Path.{sym}
 use native.Mathlib.Omega.{arith}
 use borrow.Author.Needs.{needs}
 use Rattle.slots.specs.Source.{slotOf}
-use Rattle.predicate.proofs.Picks.{length-edges, runs-le}
-use Rattle.predicate.proofs.list_entries.Statement.{statement}
-use Rattle.predicate.proofs.list_entries.Tie as tie
+use Rattle.stored_list.proofs.Entries.{length-edges, runs-le}
+use Rattle.stored_list.proofs.list_entries.Statement.{statement}
+use Rattle.stored_list.proofs.list_entries.Tie as tie
 
 mul-result : tie.Need-mul-result
 mul-result c =

@@ -1,9 +1,9 @@
--- `predicate::store_list` meets its contract: a route's entries by its own writer; none and all store no entry. Assumes nothing.
+-- `stored_list::store_list` meets its contract: a route's entries by its own writer; none and all store no entry. Assumes nothing.
 use mathlib.Core.Path.{refl}
 use borrow.Author.Needs.{needs}
 use Rattle.format.proofs.Put.{none}
-use Rattle.predicate.proofs.store_list.Statement.{statement}
-use Rattle.predicate.proofs.store_list.Tie as tie
+use Rattle.stored_list.proofs.store_list.Statement.{statement}
+use Rattle.stored_list.proofs.store_list.Tie as tie
 
 -- the entries fit the list
 store-runs-requires : tie.Need-store-runs-requires

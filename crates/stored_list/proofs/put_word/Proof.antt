@@ -1,4 +1,4 @@
--- `predicate::put_word` meets its contract. What is left to store are the rows of the set bits left. Assumes nothing.
+-- `stored_list::put_word` meets its contract. What is left to store are the rows of the set bits left. Assumes nothing.
 use Prim.Native.Nat.{_+_, _-_, _^_, _≤_, _<_}
 use mathlib.Core.List.{[], _∷_}
 use mathlib.Core.Path.{_≡_, refl}
@@ -10,8 +10,8 @@ use lib.ListN.{length}
 use Rattle.format.specs.Rows.{setRows, Below}
 use Rattle.format.proofs.Put.{Left, whole, stored, room, done, kept}
 use Rattle.format.proofs.RowLaws.{set-none, set-more, below-first, below-others}
-use Rattle.predicate.proofs.put_word.Statement.{statement}
-use Rattle.predicate.proofs.put_word.Tie as tie
+use Rattle.stored_list.proofs.put_word.Statement.{statement}
+use Rattle.stored_list.proofs.put_word.Tie as tie
 
 abbrev Inv-loop : tie.InvT-loop
 Inv-loop list₀ at base word here₀ x₀ list here x = (x < 2 ^ 64) × Below (2 ^ 32) (setRows base x) × Left list₀ at (setRows base word) list here (setRows base x)

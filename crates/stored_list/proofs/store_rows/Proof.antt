@@ -1,4 +1,4 @@
--- `predicate::store_rows` meets its contract. What is left to store are the picks from word w on. Assumes nothing.
+-- `stored_list::store_rows` meets its contract. What is left to store are the picks from word w on. Assumes nothing.
 use Prim.Native.Nat.{_+_, _*_, _-_, _≤_}
 use mathlib.Core.List.{[], _++_, append-nil}
 use mathlib.Core.Path.{_≡_, refl, sym, _∙_}
@@ -9,10 +9,10 @@ use Rattle.format.specs.Slots.{picksFrom}
 use Rattle.format.proofs.Put.{same-size, Left, whole, less, room, done, kept}
 use Rattle.slots.specs.Source.{slotOf}
 use Rattle.slots.proofs.Reading.{slot-past}
 use Rattle.predicate.specs.Selection.{picksOn}
 use Rattle.predicate.proofs.Picks.{picks-start, picks-whole, word-below}
-use Rattle.predicate.proofs.store_rows.Statement.{statement}
-use Rattle.predicate.proofs.store_rows.Tie as tie
+use Rattle.stored_list.proofs.store_rows.Statement.{statement}
+use Rattle.stored_list.proofs.store_rows.Tie as tie
 
 abbrev Inv-loop : tie.InvT-loop
 Inv-loop s b list₀ len here₀ w₀ list here w =

@@ -1,0 +1,2 @@
+-- How many entries a list of runs has.
+mod Entries
