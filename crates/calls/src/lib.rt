@@ -14,7 +14,7 @@ const BEFORE: u8 = 0xA5;
 
 const BEFORE_ENTRY: u32 = 0xA5A5_A5A5;
 
-// The most that a line can lend or hold.
+// The most that a line can hold or lend: room for the longest stored case, and little, since all of it is set anew for each case.
 const PACK_ROOM: usize = 4096;
 
 const LIST_ROOM: usize = 256;
@@ -246,7 +246,8 @@ fn case(text: &[u8], from: usize) -> usize
     n.next
 }
 
-// Every call of a text.
+// Every call of a text. Nothing can be promised, since it only prints and the contract of a write says nothing of what is written: what it prints is
+// held to stored answers.
 pub fn run(text: &[u8]) {
     let mut at: usize = 0;
     while at < text.len() {

@@ -12,13 +12,11 @@ ghost use Rattle.nesting.specs.Rows.{keeps, picksOf, edge, Ready, AtRuns, RootR
 ghost use Rattle.fill.specs.Scratch.{Filled};
 use nesting::edges::end_edge;
 use nesting::rows::keeps;
+use nesting::table::RUNS;
 use nesting::table::least;
 use nesting::table::node_count;
 use nesting::top::at_root;
 use slots::Bits;
-
-// Kind by number: the one whose child has a bitmap in scratch.
-const RUNS: u32 = 9;
 
 // At most eight rows of a node as a byte, the first row lowest: which of them are kept.
 fn kept_byte(

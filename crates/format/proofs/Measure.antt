@@ -71,18 +71,18 @@ module _ (cs : List Column) (ks : List KeptNode) where
   unfolding packSize
   write-size = length-write cs ks ∙ ap (λ (at : ℕ). raised at + 40 * length cs + 16) (length-body (length cs))
 
+pub length-columns : (b : List ℕ) → length (columns b) ≡ nodeCount b
+unfolding columns
+length-columns b = length-table _ (nodeCount b)
+
 -- an extract's: from its body, and from the sizes of what each node keeps
 module _ (b root : List ℕ) where
-  pub length-columns : length (columns b) ≡ nodeCount b
-  unfolding columns
-  length-columns = length-table _ (nodeCount b)
-
   pub length-extract : length (extract b root) ≡ raised (length (written (columns b) (keptPart b root) (nodeCount b) .body)) + 40 * nodeCount b + 16
   unfolding extract
   length-extract =
       length-write (columns b) (keptPart b root)
-      ∙ ap (λ (n : ℕ). raised (length (written (columns b) (keptPart b root) n .body)) + 40 * n + 16) length-columns
+      ∙ ap (λ (n : ℕ). raised (length (written (columns b) (keptPart b root) n .body)) + 40 * n + 16) (length-columns b)
 
   pub extract-size : length (extract b root) ≡ packSize (nodeSizeAt (keptPart b root)) (nodeCount b)
   unfolding extract
-  extract-size = write-size (columns b) (keptPart b root) ∙ ap (packSize (nodeSizeAt (keptPart b root))) length-columns
+  extract-size = write-size (columns b) (keptPart b root) ∙ ap (packSize (nodeSizeAt (keptPart b root))) (length-columns b)

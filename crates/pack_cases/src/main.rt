@@ -4,6 +4,7 @@ use libc::STDOUT_FILENO;
 ghost use Prim.Native.Nat.{_≤_, _<_};
 ghost use lib.ListN.{length};
 
+// The most that a line can hold: a pack of 64 nodes, the most that there may be, has 2,576 bytes of table and trailer.
 const PACK_ROOM: usize = 4096;
 
 fn say(text: &[u8]) {

@@ -1,8 +1,9 @@
 -- Blocks of kept rows: which rows each form of block has, and what asking for the next one answers. Assumes nothing.
-use Prim.Native.Nat.{ℕ, _+_, _-_, _*_, _≤_, _<_}
-use mathlib.Core.Bool.{Bool, true, false}
+use Prim.Native.Nat.{ℕ, _+_, _-_, _*_, _/_, _%_, _^_, _≤_, _<_}
+use mathlib.Core.Bool.{Bool, true, false, _||_}
 use mathlib.Core.List.{List, [], _++_}
 use mathlib.Core.Path.{_≡_}
+use lib.Dec.{eqb}
 use lib.ListN.{length}
 use Rattle.format.specs.Bytes.{bytesAt}
 use Rattle.format.specs.Rows.{setRows}
@@ -72,3 +73,10 @@ pub record NextRun (p : ℕ → Bool) (len from a e : ℕ) : Type 0 where
   pub order : a ≤ e
   pub high : e ≤ len
   pub run : a < e → Ran p len from a e
+
+-- a word whose lowest 16 bits are set, and one whose lowest or highest are: how rows are best taken, whichever way gives the same rows
+abbrev pub startsLong : ℕ → Bool
+startsLong x = eqb (x % 0x10000) 0xFFFF
+
+abbrev pub asRuns : ℕ → Bool
+asRuns x = startsLong x || eqb (x / 2 ^ 48) 0xFFFF

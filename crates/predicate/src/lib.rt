@@ -3,7 +3,7 @@ ghost use mathlib.Core.Path.{_≡_};
 ghost use Prim.Native.Nat.{_+_, _*_, _/_, _≤_, _<_};
 ghost use Rattle.slots.specs.Source.{slotOf, Lies};
 ghost use Rattle.predicate.specs.Selection.{InStep, keptBy, Readable, selectionFor, lazy};
-ghost use Rattle.predicate.specs.Blocks.{Worded, Blocked, Found, Filled, NextRun};
+ghost use Rattle.predicate.specs.Blocks.{Worded, Blocked, Found, Filled, NextRun, startsLong, asRuns};
 use format::Route;
 use slots::Bits;
 
@@ -77,15 +77,19 @@ fn few(y: u64) -> bool {
     z & std::num::wrapping_sub_u64(z, 1) == 0
 }
 
-// Whether a word starts with 16 set bits: a run that is worth a copy of its own. Nothing is promised here either.
-fn long(x: u64) -> bool {
+// Whether a word starts with 16 set bits: a run that is worth a copy of its own.
+fn long(x: u64) -> bool
+    ensures { λ r. ⌜ r ≡ startsLong x ⌝ }
+{
     x % 0x1_0000 == 0xFFFF
 }
 
 // Whether a whole word starts or ends with 16 set bits, so that its rows go better as runs: a column that takes the mask's words itself asks for
-// a block there, and `word_block` decides. Nothing is promised here either. A count of the zeros, as `word_block` makes it, would cost five times
-// as much, at every word of a scattered mask.
-pub fn as_runs(x: u64) -> bool {
+// a block there, and `word_block` decides. A count of the zeros, as `word_block` makes it, would cost five times as much, at every word of a
+// scattered mask.
+pub fn as_runs(x: u64) -> bool
+    ensures { λ r. ⌜ r ≡ asRuns x ⌝ }
+{
     long(x) | (x >> 48 == 0xFFFF)
 }
 

@@ -18,7 +18,8 @@ use Rattle.format.specs.Kept.{Column, columns, KeptNode, Cells, flags, entries,
 use Rattle.format.specs.Write.{holds, total, write, extract, first, second, noColumn, noNode}
 use Rattle.format.specs.Accepted.{OneChild, Inner, shared, byRuns, Sound}
 use Rattle.format.specs.Accepted as is
-use Rattle.format.proofs.Laws.{length-table, getD-table, kept-root, kept-at}
+use Rattle.format.proofs.Laws.{getD-table, kept-root, kept-at}
+use Rattle.format.proofs.Measure.{length-columns}
 use Rattle.format.proofs.Numbers.{table-ext, table-front, le-lt, length-bytes}
 use Rattle.format.proofs.Accepted.{sound}
 use Rattle.roundtrip.specs.Back.{Extracted, allRows}
@@ -54,10 +55,6 @@ module _ {b rs : List ℕ} (x : Extracted b rs) where
   kept i = keptRows b rs i
 
   -- what is handed to the writer, node by node
-  pub count-columns : length (columns b) ≡ nodeCount b
-  unfolding columns
-  count-columns = length-table _ (nodeCount b)
-
   column-at : (i : ℕ) → i < nodeCount b → columnAt (columns b) i ≡ record { kindIs = kindNumber b i; paramIs = param b i; kidsAre = kids b i }
   unfolding columns
   column-at i l = getD-table _ (nodeCount b) i noColumn l
@@ -79,22 +76,22 @@ module _ {b rs : List ℕ} (x : Extracted b rs) where
   fits =
       record {
         size = x .short;
-        kinds = λ i l. let l′ : i < nodeCount b = rw count-columns at l in rw (column-at i l′) (field-lt 0 i);
-        params = λ i l. let l′ : i < nodeCount b = rw count-columns at l in rw (column-at i l′) (field-lt 1 i);
-        kids = λ i l. let l′ : i < nodeCount b = rw count-columns at l in rw (column-at i l′) (field-lt 4 i);
-        some = rw count-columns (facts .shape .some);
-        rows = λ i l. let l′ : i < nodeCount b = rw count-columns at l in omega (arith, count-marks i l′, kept-below b rs facts (x .picked) i l′ .few, field-lt 2 i);
+        kinds = λ i l. let l′ : i < nodeCount b = rw (length-columns b) at l in rw (column-at i l′) (field-lt 0 i);
+        params = λ i l. let l′ : i < nodeCount b = rw (length-columns b) at l in rw (column-at i l′) (field-lt 1 i);
+        kids = λ i l. let l′ : i < nodeCount b = rw (length-columns b) at l in rw (column-at i l′) (field-lt 4 i);
+        some = rw (length-columns b) (facts .shape .some);
+        rows = λ i l. let l′ : i < nodeCount b = rw (length-columns b) at l in omega (arith, count-marks i l′, kept-below b rs facts (x .picked) i l′ .few, field-lt 2 i);
       }
 
   -- ---- the columns and the tree
 
   pub same-count : nodeCount e ≡ nodeCount b
   unfolding extract
-  same-count = node-count (columns b) (keptPart b rs) fits ∙ count-columns
+  same-count = node-count (columns b) (keptPart b rs) fits ∙ length-columns b
 
   module _ (i : ℕ) (l : i < nodeCount b) where
     pub inside : i < length (columns b)
-    inside = rw count-columns l
+    inside = rw (length-columns b) l
 
     pub same-number : kindNumber e i ≡ kindNumber b i
     unfolding extract

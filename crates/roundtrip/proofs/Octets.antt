@@ -12,10 +12,11 @@ use Rattle.format.specs.Bytes.{table, join, toLe, bytesAt, packed, raised, padd
 use Rattle.format.specs.Node.{nodeCount, rows}
 use Rattle.format.specs.Kept.{columns, keptNode, keptPart, keptRows, cells, firstEntry, secondEntry, ownBytes}
 use Rattle.format.specs.Write.{Buffer, absent, holds, anyNull, bitmap, first, second, numbers, with, written, addNode, write, extract}
+use Rattle.format.proofs.Measure.{length-columns}
 use Rattle.format.proofs.PackedLaws.{packed-word}
 use Rattle.roundtrip.specs.Back.{Extracted, allRows}
 use Rattle.roundtrip.specs.Placed.{bodyAt}
-use Rattle.roundtrip.proofs.Again.{node-at, count-columns}
+use Rattle.roundtrip.proofs.Again.{node-at}
 use Rattle.roundtrip.proofs.Rows.{below-all}
 use Rattle.roundtrip.proofs.Roundtrip.{read-back}
 
@@ -165,7 +166,7 @@ module _ {b rs : List ℕ} (x : Extracted b rs) where
   unfolding extract write
   octets-extract =
       octets-append
-      (octets-append (octets-padded (octets-body (length (columns b)) (rw (count-columns x) (omega arith)))) (octets-nodes (length (columns b))))
+      (octets-append (octets-padded (octets-body (length (columns b)) (rw (length-columns b) (omega arith)))) (octets-nodes (length (columns b))))
       (octets-numbers 4 _)
 
   -- the extract is a journal like any other, and so is its extract

@@ -29,7 +29,7 @@ joined b root n =
 module _ (b root : List ℕ) where
   by-count : joined b root (nodeCount b) ≡ extract b root
   unfolding joined extract write
-  by-count = ap (joined b root) (sym (length-columns b root))
+  by-count = ap (joined b root) (sym (length-columns b))
 
   root-rows : 1 ≤ nodeCount b → length (getD (keptPart b root) 0 noNode .marks) ≡ length (keptRows b root 0)
   unfolding keptNode
