@@ -42,7 +42,8 @@ enum wurtziteloom_pack {
  * asked     true if the caller wants the list of picks stored
  * list      lent for the list: by route indices the picked slots, rising; by route slices start and end (one past the last) of each run
  *           of picked slots, rising; by the other routes no entry. Not looked at and not changed if asked is false
- * scratch   lent for working: for each runs node (kind 9) an eighth of its child's rows, rounded up, in bytes. What it holds does not matter
+ * scratch   lent for working: for each runs node (kind 9) and each lists node (kinds 13 and 14) of the journal an eighth of its child's rows,
+ *           rounded up, in bytes. What it holds does not matter
  * output    lent for the extract
  * answer    four numbers, written in every case
  *

@@ -17,7 +17,7 @@ extract() { (cd "$work" && "$root/target/bin/extract"); }
 sum() { sha256sum <"$1"; }
 
 cp sample/mask.pack sample/journal.pack "$work"
-same 'the sample' 'rows 11 of 40 route indices bytes 936' "$(extract)"
+same 'the sample' 'rows 11 of 40 route indices bytes 1184' "$(extract)"
 same "the sample's extract, byte for byte" "$(sum sample/extract.pack)" "$(sum "$work/out.pack")"
 
 # P1 at width 4, whole bytes as the specification has them; then one slot more in the mask than the journal has rows

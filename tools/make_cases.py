@@ -63,12 +63,18 @@ def refused(name, slip, mask, journal, stated=None, asked=False, places=3, scrat
     expected.append("  rest kept")
 
 
+def worked_out(extract, *whole):
+    """An extract whose bytes are also given whole, as numbers of four bytes: body, nodes, and the trailer up to its mark."""
+    assert extract.whole() == numbers(4, whole) + MARK, extract.whole().hex()
+    return extract
+
+
 FIVE = pack().native(4, [5, 6, 7, 8, 9])
 FOUR = pack().native(4, [1, 2, 3, 4])
 NINE_RUNS = pack().runs(2, 9, range(1, 10)).native(1, range(1, 10))
-P1 = Pack().native(4, [5, 8])
+NINE_IN_LISTS = pack().lists([5, 4]).native(1, range(1, 10))
 # the specification's own bytes
-assert P1.whole() == numbers(4, [5, 8, 2, 4, 2, 0, 0, NO_BITMAP, 0, 0, 0, 0, 8, 1, 2]) + MARK
+P1 = worked_out(Pack().native(4, [5, 8]), 5, 8, 2, 4, 2, 0, 0, NO_BITMAP, 0, 0, 0, 0, 8, 1, 2)
 
 
 def bench():
@@ -136,8 +142,8 @@ def kinds():
          .native(1, longer).native(1, b"__" + long + b"__"))
     for name, kind in (("kind-7-list-views", 7), ("kind-8-list-views64", 8)):
         done(name, "TTFT", "rows 3 of 4 route indices",
-             pack().lists([(2, 2), Null((4, 1)), (0, 5), (5, 0)], [(0, 1)], kind).native(4, [1, 2, None, 4, 5], [0]),
-             Pack().lists([(2, 2), Null((4, 1)), (5, 0)], kind=kind).native(4, [1, 2, None, 4, 5]))
+             pack().list_views([(2, 2), Null((4, 1)), (0, 5), (5, 0)], [(0, 1)], kind).native(4, [1, 2, None, 4, 5], [0]),
+             Pack().list_views([(2, 2), Null((4, 1)), (5, 0)], kind=kind).native(4, [1, 2, None, 4, 5]))
     # places 4 to 8: the first two runs end before them, the last starts behind them
     done("kind-9-runs", "TFTFT", "rows 3 of 5 route indices",
          pack().runs(2, 5, [2, 3, 7, 9, 12], skip=4).texts([b"a", b"b", b"cc", None, b"e"], [b"-"]),
@@ -153,16 +159,25 @@ def kinds():
     done("kind-12-dictionary", "TTFT", "rows 3 of 4 route indices",
          pack().dictionary(2, [2, Null(999), 1, 2], [777]).texts([b"zero", None, b"two"]),
          Pack().dictionary(2, [2, Null(999), 2]).texts([b"zero", None, b"two"]))
+    # the first offset is 1; the one before skip is 5 and means nothing. A null row loses its child rows
+    for name, kind in (("kind-13-lists", 13), ("kind-14-lists64", 14)):
+        done(name, "TTFT", "rows 3 of 4 route indices",
+             pack().lists([2, Null(1), 3, 1], [-4], kind, start=5).native(4, [0, 1, None, 3, 4, 5, 6, None, 8], [9]),
+             Pack().lists([2, None, 1], kind=kind).native(4, [1, None, None]), scratch=2)
 
 
 def every_kind(p, kept, ends, runs, skip):
-    """A column of each kind, with those rows of six that are kept; a skip passes over one row more. The kept runs, and where they end."""
+    """A column of each kind, with those rows of six that are kept; a skip passes over one row more. The kept runs, and where they end.
+    Null lists have child rows only with the skip, in what is filtered."""
 
     def rows(before, *six):
         return [six[i] for i in kept], [before] if skip else []
 
+    def joined(before, *six):
+        return [x for items in (before if skip else [], *(six[i] for i in kept)) for x in items]
+
     long, longer = b"thirteen byte", b"fourteen bytes"
-    p.struct(12, *rows(None, True, True, None, True, True, True))
+    p.struct(14, *rows(None, True, True, None, True, True, True))
     p.flags(*rows(True, True, None, False, True, Null(True), False))
     p.native(4, *rows(9, 10, 11, None, 13, 14, 15))
     p.fixed(3, *rows(b"---", b"abc", b"def", b"ghi", None, b"mno", Null(b"pqr")))
@@ -170,12 +185,15 @@ def every_kind(p, kept, ends, runs, skip):
     p.texts(*rows(None, b"1", b"22", b"333", b"4444", b"55555", b"666666"), kind=5)
     p.views(1, *rows(view(b""), view(b"a"), view(long, 0, 0), None, view(longer, 0, 13), view(b"twelve bytes"), view(b"")))
     p.native(1, long + longer)
-    p.lists(*rows((9, 9), (0, 2), (1, 1), None, (2, 1), (3, 0), Null((0, 3)))).native(2, [7, 8, 9])
-    p.lists(*rows((9, 9), (0, 0), (1, 0), (0, 1), (0, 1), (1, 0), (0, 0)), kind=8).texts([b"child"])
+    p.list_views(*rows((9, 9), (0, 2), (1, 1), None, (2, 1), (3, 0), Null((0, 3)))).native(2, [7, 8, 9])
+    p.list_views(*rows((9, 9), (0, 0), (1, 0), (0, 1), (0, 1), (1, 0), (0, 0)), kind=8).texts([b"child"])
     p.runs(4, len(kept), ends, int(skip)).native(4, [(20, None, 22)[j] for j in runs])
     p.struct(1, *rows(True, True, None, True, True, True, None)).native(1, *rows(0, 1, 2, 3, 4, 5, 6))
     p.union(2, *rows(3, 0, 1, 1, 0, 0, 1)).flags(*rows(None, True, False, True, False, True, False)).native(8, *rows(0, 1, 2, 3, 4, 5, 6))
     p.dictionary(1, *rows(9, 0, 1, None, 1, Null(7), 0)).fixed(1, [b"x", b"y"])
+    p.lists(*rows(1, 2, 0, Null(int(skip)), 1, 3, None)).native(2, joined([30], [31, 32], [], [33] if skip else [], [34], [35, 36, 37], []))
+    p.lists(*rows(2, 1, 2, 0, Null(2 * skip), 1, 1), kind=14)
+    p.texts(joined([b"no", b"no"], [b"A"], [b"B", None], [], [b"x", b"yy"] if skip else [], [b"CCC"], [b""]))
     return p
 
 
@@ -189,7 +207,8 @@ def kinds_by_routes():
         ("indices-stored", "FTFFTF", "2 of 6 route indices", [1, 4], [1, 2], [0, 1], [1, 4]),
         ("indices-lazy", "TFFFFT", "2 of 6 route indices", [0, 5], [1, 2], [0, 2], None),
     ):
-        done(f"every-kind-{name}", slots, f"rows {answer}", journal, every_kind(Pack(), kept, ends, runs, False), entries, scratch=1)
+        # children of 3 runs, of 8 and of 9 list rows
+        done(f"every-kind-{name}", slots, f"rows {answer}", journal, every_kind(Pack(), kept, ends, runs, False), entries, scratch=1 + 1 + 2)
 
 
 def widths():
@@ -237,29 +256,33 @@ def nesting():
          pack().dictionary(1, [2, 0, 1]).runs(4, 3, [2, 4, 7, 9], skip=2).native(4, [1, 2, 3, 4]),
          Pack().dictionary(1, [2, 1]).runs(4, 3, [2, 3]).native(4, [2, 3]), scratch=1)
     done("carried-children-under-each-other", "FT", "rows 1 of 2 route indices",
-         pack().lists([(0, 1), (1, 2)]).dictionary(1, [1, 0, None], [5])
+         pack().list_views([(0, 1), (1, 2)]).dictionary(1, [1, 0, None], [5])
          .views(1, [view(b"in"), view(b"a longer street")]).native(1, b"a longer street"),
-         Pack().lists([(1, 2)]).dictionary(1, [1, 0, None])
+         Pack().list_views([(1, 2)]).dictionary(1, [1, 0, None])
          .views(1, [view(b"in"), view(b"a longer street")]).native(1, b"a longer street"))
     # the list's child keeps all its rows, which are none: so its own child keeps none
     done("a-carried-child-that-has-no-rows", "TF", "rows 1 of 2 route indices",
-         pack().lists([(0, 0), (0, 0)]).dictionary(1, []).texts([b"x", b"y"]),
-         Pack().lists([(0, 0)]).dictionary(1, []).texts([]))
+         pack().list_views([(0, 0), (0, 0)]).dictionary(1, []).texts([b"x", b"y"]),
+         Pack().list_views([(0, 0)]).dictionary(1, []).texts([]))
     done("no-row-kept-in-every-kind", "FFF", "rows 0 of 3 route none",
-         pack().struct(9, [True, None, True])
+         pack().struct(11, [True, None, True])
          .flags([True, None, False]).fixed(2, [b"ab", b"cd", b"ef"]).texts([b"a", b"b", None]).texts([b"a", b"b", b"c"], kind=5)
          .views(1, [view(b"s"), view(b"thirteen byte"), None]).native(1, b"thirteen byte")
-         .lists([(0, 2), (1, 1), (0, 0)], kind=8).dictionary(4, [0, 1]).texts([b"x", b"y"])
+         .list_views([(0, 2), (1, 1), (0, 0)], kind=8).dictionary(4, [0, 1]).texts([b"x", b"y"])
          .runs(8, 3, [1, 3]).runs(2, 2, [1, 2]).native(4, [1, 2])
          .union(1, [0, 0, 0]).native(1, [1, 2, 3])
-         .dictionary(2, [0, 1, 0]).struct(1, [True, None]).native(8, [1, 2]),
-         Pack().struct(9, [])
+         .dictionary(2, [0, 1, 0]).struct(1, [True, None]).native(8, [1, 2])
+         .lists([2, Null(1), 0]).lists([1, 0, 1], kind=14).native(4, [1, 2])
+         .lists([0, 0, 1], kind=14).dictionary(1, [0]).texts([b"x"]),
+         Pack().struct(11, [])
          .flags([]).fixed(2, []).texts([]).texts([], kind=5)
          .views(1, []).native(1, [])
-         .lists([], kind=8).dictionary(4, []).texts([])
+         .list_views([], kind=8).dictionary(4, []).texts([])
          .runs(8, 0, []).runs(2, 0, []).native(4, [])
          .union(1, []).native(1, [])
-         .dictionary(2, []).struct(1, []).native(8, []), scratch=2)
+         .dictionary(2, []).struct(1, []).native(8, [])
+         .lists([]).lists([], kind=14).native(4, [])
+         .lists([], kind=14).dictionary(1, []).texts([]), scratch=5)
     journal, extract = pack(), Pack()
     for _ in range(7):
         journal.struct(1, [True] * 3)
@@ -299,6 +322,112 @@ def under_runs():
         done(f"70-runs-{name}", slots, f"rows {answer}", journal, extract, scratch=9)
 
 
+def lists():
+    title("lists")
+    # 1, 3, 4, 5 become 0, 2, 3: not from the journal's first offset on; child rows 0 and 5 are in no list
+    done("list-offsets-are-rebuilt-from-0", "TFT", "rows 2 of 3 route indices",
+         pack().lists([2, 1, 1], start=1).native(4, [9, 10, 11, 12, 13, 14]),
+         worked_out(Pack().lists([2, 1]).native(4, [10, 11, 13]), 0, 2, 3, 0, 10, 11, 13, 0,
+                    13, 0, 2, 0, 1, NO_BITMAP, 0, 0, 0, 0, 2, 4, 3, 0, 0, NO_BITMAP, 16, 0, 0, 0, 32, 2, 2), scratch=1)
+    # the bitmap, row 0 valid; the null row repeats the offset
+    done("a-null-list-loses-its-child-rows", "TTF", "rows 2 of 3 route indices",
+         pack().lists([2, Null(1), 1]).native(4, [10, 11, 12, 13]),
+         worked_out(Pack().lists([2, None]).native(4, [10, 11]), 1, 0, 0, 2, 2, 0, 10, 11,
+                    13, 0, 2, 0, 1, 0, 8, 0, 0, 0, 2, 4, 2, 0, 0, NO_BITMAP, 24, 0, 0, 0, 32, 2, 2), scratch=1)
+    done("a-null-list64-loses-its-child-rows", "TTF", "rows 2 of 3 route indices",
+         pack().lists([2, Null(1), 1], kind=14).native(4, [10, 11, 12, 13]),
+         worked_out(Pack().lists([2, None], kind=14).native(4, [10, 11]), 1, 0, 0, 0, 2, 0, 2, 0, 10, 11,
+                    14, 0, 2, 0, 1, 0, 8, 0, 0, 0, 2, 4, 2, 0, 0, NO_BITMAP, 32, 0, 0, 0, 40, 2, 2), scratch=1)
+    done("a-null-list-that-is-dropped", "TFT", "rows 2 of 3 route indices",
+         pack().lists([2, Null(1), 1]).native(4, [10, 11, 12, 13]), Pack().lists([2, 1]).native(4, [10, 11, 13]), scratch=1)
+    done("all-lists-lose-what-is-in-none", "TTTT", "rows 4 of 4 route all",
+         pack().lists([1, Null(2), 0, 2], kind=14, start=2).texts([b"a", b"b", b"c", b"d", b"e", b"f", b"g", b"h"]),
+         Pack().lists([1, None, 0, 2], kind=14).texts([b"c", b"f", b"g"]), [], scratch=1)
+    # no child row is kept: so the street names go too, which the dictionary would carry
+    done("kept-lists-that-are-null-or-empty", "TTF", "rows 2 of 3 route indices",
+         pack().lists([0, Null(2), 1]).dictionary(1, [0, 1, 1]).texts([b"Amber Lane", b"Bell Street"]),
+         Pack().lists([0, None]).dictionary(1, []).texts([]), scratch=1)
+    done("lists-with-0-rows-and-an-offset-of-2", "", "rows 0 of 0 route none",
+         pack().lists([], start=2).native(1, [1, 2, 3]), Pack().lists([]).native(1, []), scratch=1)
+    done("lists-of-bytes", "FTT", "rows 2 of 3 route indices",
+         pack().lists([1, 2, 1]).texts([b"one", b"two", None, Null(b"lost")], [b"skipped"]),
+         Pack().lists([2, 1]).texts([b"two", None, Null(b"lost")]), scratch=1)
+    # way points: a null struct row, a null in a column, skips
+    done("lists-of-struct", "TFT", "rows 2 of 3 route indices",
+         pack().lists([2, 1, 2], [1]).struct(2, [True, True, None, True, True, None]).native(2, [0, 10, 20, 30, 40, 50], [9, 9])
+         .native(2, [1, None, 21, 31, None, 51]),
+         Pack().lists([2, 2]).struct(2, [True, None, True, None]).native(2, [10, 20, 40, 50]).native(2, [None, 21, None, 51]), scratch=1)
+    done("lists-of-a-dictionary-carry-its-child", "FT", "rows 1 of 2 route indices",
+         pack().lists([1, 2]).dictionary(1, [0, 2, None]).texts([b"x", b"y", b"z"]),
+         Pack().lists([2]).dictionary(1, [2, None]).texts([b"x", b"y", b"z"]), scratch=1)
+    done("lists-of-views-and-list-views-carry-their-children", "TF", "rows 1 of 2 route indices",
+         pack().struct(2, [True, True])
+         .lists([1, 1]).views(1, [view(b"thirteen byte", 0, 1), view(b"s")]).native(1, b"_thirteen byte")
+         .lists([1, 1]).list_views([(0, 2), (1, 2)]).native(1, [5, 6, 7]),
+         Pack().struct(2, [True])
+         .lists([1]).views(1, [view(b"thirteen byte", 0, 1)]).native(1, b"_thirteen byte")
+         .lists([1]).list_views([(0, 2)]).native(1, [5, 6, 7]), scratch=2)
+    # more child rows than a word has bits: 70 lists of two
+    flags, texts = [Null(True) if j % 11 == 5 else j % 3 == 1 for j in range(140)], [b"%d" % (j % 10) for j in range(140)]
+    journal = pack().lists([2] * 70).struct(2, [True] * 140).flags(flags, [None]).texts(texts, [b"-"])
+    for name, slots, answer, kept in (
+        ("each-third-kept", "TFF" * 23 + "F", "23 of 70 route indices", range(0, 69, 3)),
+        ("one-dropped", "T" * 32 + "F" + "T" * 37, "69 of 70 route slices", [*range(32), *range(33, 70)]),
+    ):
+        below = [j for i in kept for j in (2 * i, 2 * i + 1)]
+        extract = Pack().lists([2] * len(kept)).struct(2, [True] * len(below))
+        extract.flags([flags[j] for j in below]).texts([texts[j] for j in below])
+        done(f"70-lists-{name}", slots, f"rows {answer}", journal, extract, scratch=18)
+
+
+def nested_lists():
+    title("lists under other kinds, and under each other")
+    # the kept list has a null one in it, whose child rows go, an empty one and one of two
+    done("lists-under-lists", "FTF", "rows 1 of 3 route indices",
+         pack().lists([1, 3, 1]).lists([1, Null(2), 0, 2, 1]).native(4, [10, 20, 21, 40, 41, 50]),
+         worked_out(Pack().lists([3]).lists([None, 0, 2]).native(4, [40, 41]), 0, 3, 0b110, 0, 0, 0, 0, 2, 40, 41,
+                    13, 0, 1, 0, 1, NO_BITMAP, 0, 0, 0, 0, 13, 0, 3, 0, 1, 8, 16, 0, 0, 0, 2, 4, 2, 0, 0, NO_BITMAP, 32, 0, 0, 0, 40, 3, 1),
+         scratch=2)
+    # the offsets start at 3 and below at 2; kept are the inner lists 3 and 4, none (a null, over the list of 18 and 19), and 7
+    done("lists-under-lists-with-skips", "TFTT", "rows 3 of 4 route indices",
+         pack().lists([2, 1, Null(1), 1], [3], 14).lists([1, 2, 0, 1, 1, 1, 2, 1], [2]).native(1, range(10, 21), [7]),
+         Pack().lists([2, None, 1], kind=14).lists([1, 1, 1]).native(1, [15, 16, 20]), scratch=3)
+    # a run of rows 0 and 1 and one of row 3 are kept: their lists, once each, and the child rows of these
+    done("lists-under-runs", "TTFT", "rows 3 of 4 route indices",
+         pack().runs(4, 4, [2, 3, 4]).lists([2, 3, 1]).native(4, [1, 2, 3, 4, 5, 6]),
+         worked_out(Pack().runs(4, 3, [2, 3]).lists([2, 1]).native(4, [1, 2, 6]), 2, 3, 0, 2, 3, 0, 1, 2, 6, 0,
+                    9, 4, 3, 0, 1, NO_BITMAP, 0, 0, 0, 0, 13, 0, 2, 0, 1, NO_BITMAP, 8, 0, 0, 0, 2, 4, 3, 0, 0, NO_BITMAP, 24, 0, 0, 0, 40, 3, 3),
+         scratch=2)
+    # child rows 0 and 1, none, and 5: one in each of the runs
+    done("runs-under-lists", "TTFT", "rows 3 of 4 route indices",
+         pack().lists([2, Null(1), 2, 1]).runs(4, 6, [1, 4, 6]).native(4, [10, 20, 30]),
+         worked_out(Pack().lists([2, None, 1]).runs(4, 3, [1, 2, 3]).native(4, [10, 20, 30]), 0b101, 0, 0, 2, 2, 3, 1, 2, 3, 0, 10, 20, 30, 0,
+                    13, 0, 3, 0, 1, 0, 8, 0, 0, 0, 9, 4, 3, 0, 1, NO_BITMAP, 24, 0, 0, 0, 2, 4, 3, 0, 0, NO_BITMAP, 40, 0, 0, 0, 56, 3, 3),
+         scratch=2)
+    # the runs of a dropped list and of a null one go; the child rows are the places 2 to 6 of the runs
+    done("runs-under-lists-go-with-their-lists", "TFT", "rows 2 of 3 route indices",
+         pack().lists([1, 2, Null(2)]).runs(2, 5, [3, 5, 9], skip=2).native(4, [1, 2, 3]),
+         Pack().lists([1, None]).runs(2, 1, [1]).native(4, [1]), scratch=2)
+    done("lists-under-a-null-struct-row", "TF", "rows 1 of 2 route indices",
+         pack().struct(1, [None, True]).lists([2, 1]).native(1, [1, 2, 3]), Pack().struct(1, [None]).lists([2]).native(1, [1, 2]), scratch=1)
+    done("lists-under-a-union", "FT", "rows 1 of 2 route indices",
+         pack().union(2, [0, 1]).lists([1, 2]).native(1, [1, 2, 3]).flags([True, False]),
+         Pack().union(2, [1]).lists([2]).native(1, [2, 3]).flags([False]), scratch=1)
+    # all lists are kept, but no child row that is under a null one or in none
+    done("lists-under-a-carried-child", "TF", "rows 1 of 2 route indices",
+         pack().dictionary(1, [2, 0]).lists([1, Null(2), 1], start=1).native(1, [1, 2, 3, 4, 5, 6]),
+         Pack().dictionary(1, [2]).lists([1, None, 1]).native(1, [2, 5]), scratch=1)
+    done("lists-under-list-views", "TF", "rows 1 of 2 route indices",
+         pack().list_views([(0, 1), (1, 1)]).lists([1, Null(1)]).native(1, [1, 2]),
+         Pack().list_views([(0, 1)]).lists([1, None]).native(1, [1]), scratch=1)
+    # row 1 has rows 1 and 2 of the next level, and these have rows 1 and 2 of each level below
+    journal, extract = pack().lists([1, 2]), Pack().lists([2])
+    for _ in range(6):
+        journal.lists([1, 1, 1])
+        extract.lists([1, 1])
+    done("lists-to-depth-8", "FT", "rows 1 of 2 route indices", journal.native(4, [1, 2, 3]), extract.native(4, [2, 3]), scratch=7)
+
+
 def masks():
     title("masks and routes")
     done("a-mask-shorter-than-the-journal", "FTT", "rows 2 of 3 route indices", FIVE, Pack().native(4, [6, 7]), [1, 2])
@@ -327,6 +456,12 @@ def limits():
     title("what is lent is just enough; a count is stated")
     done("list-scratch-and-output-exact", "TFTFT", "rows 3 of 5 route indices",
          NINE_RUNS, Pack().runs(2, 3, [1, 2, 3]).native(1, [1, 3, 5]), [0, 2, 4], scratch=2, spare=0)
+    done("list-scratch-and-output-exact-for-lists", "FT", "rows 1 of 2 route indices",
+         NINE_IN_LISTS, Pack().lists([4]).native(1, [6, 7, 8, 9]), [1], scratch=2, spare=0)
+    # 9 child rows, 1, and 9 runs: two bytes, one and two
+    done("scratch-exact-for-lists-and-runs", "TF", "rows 1 of 2 route indices",
+         pack().struct(2, [True] * 2).lists([1, 0]).lists([9], kind=14).native(1, range(1, 10)).runs(2, 2, range(1, 10)).native(1, range(9)),
+         Pack().struct(2, [True]).lists([1]).lists([9], kind=14).native(1, range(1, 10)).runs(2, 1, [1]).native(1, [0]), scratch=5, spare=0)
     done("slices-exact", "TTTTTTFTTT", "rows 9 of 10 route slices",
          pack().native(1, range(10)), Pack().native(1, [0, 1, 2, 3, 4, 5, 7, 8, 9]), [0, 6, 7, 10], spare=0)
     done("all-stored-in-no-list", "TTTTT", "rows 5 of 5 route all", FIVE, Pack().native(4, [5, 6, 7, 8, 9]), [], spare=0)
@@ -368,6 +503,38 @@ def slips():
     refused("14-64-into-63", "14 journal", good, FIVE, output=63)
 
 
+def three_in_lists(kind, offsets, valid=0b11, **fields):
+    """Lists by their offsets, over a child of three rows; their bits of the bitmap; fields that a list does not use may be given."""
+    p = Pack()
+    validity, first = p.buffer(bytes([valid])), p.buffer(numbers(4 if kind == 13 else 8, offsets))
+    p.node(kind, 0, len(offsets) - 1, 0, 1, validity, first, **fields)
+    return p.native(1, [7, 8, 9])
+
+
+def list_slips():
+    title("refusal slips: lists")
+    for name, kind in (("lists", 13), ("lists64", 14)):
+        top = 2 ** (31 if kind == 13 else 63)
+        for case, number, journal in (
+            ("second-at-not-0", 4, three_in_lists(kind, [0, 1, 3], second=8)),
+            ("second-length-not-0", 4, three_in_lists(kind, [0, 1, 3], length=3)),
+            ("offsets-0-3-2", 8, three_in_lists(kind, [0, 3, 2])),
+            ("offsets-0-3-2-in-a-null-row", 8, three_in_lists(kind, [0, 3, 2], valid=0b01)),
+            ("offsets-0-1-4-in-3-child-rows", 8, three_in_lists(kind, [0, 1, 4])),
+            ("an-offset-past-the-child-with-0-rows", 8, three_in_lists(kind, [4])),
+            ("a-negative-offset-with-0-rows", 8, three_in_lists(kind, [top])),
+        ):
+            refused(f"{number}-{name}-{case}", f"{number} journal", mask("T"), journal)
+    refused("13-lists-of-9-child-rows-1-byte", "13 journal", mask("FT"), NINE_IN_LISTS, scratch=1, output=200)
+    refused("13-lists64-of-9-child-rows-1-byte", "13 journal", mask("T"), pack().lists([9], kind=14).native(1, range(9)), scratch=1, output=200)
+    refused("13-lists-though-no-row-is-kept", "13 journal", mask("FF"), NINE_IN_LISTS, scratch=1, output=200)
+    # a byte for the lists and a byte for the runs below them
+    refused("13-lists-of-runs-1-byte", "13 journal", mask("T"), pack().lists([1]).runs(2, 1, [1]).native(1, [7]), scratch=1, output=200)
+    # two offsets of 4 bytes, four child rows raised to 8 bytes, two nodes, the trailer; then offsets of 8 bytes
+    refused("14-lists-112-into-111", "14 journal", mask("FT"), NINE_IN_LISTS, output=8 + 8 + 2 * 40 + 16 - 1)
+    refused("14-lists64-120-into-119", "14 journal", mask("FT"), pack().lists([5, 4], kind=14).native(1, range(1, 10)), output=16 + 8 + 2 * 40 + 16 - 1)
+
+
 def order():
     title("refusal slips: edges and order")
     good = mask("TFFTF")
@@ -387,7 +554,7 @@ def order():
 
 def main():
     folder = sys.argv[1] if len(sys.argv) > 1 else os.path.join(os.path.dirname(os.path.abspath(__file__)), "..", "crates", "cases")
-    for group in (bench, length_128, kinds, kinds_by_routes, widths, nesting, under_runs, masks, limits, slips, order):
+    for group in (bench, length_128, kinds, kinds_by_routes, widths, nesting, under_runs, lists, nested_lists, masks, limits, slips, list_slips, order):
         group()
     for name, lines in (("stdin", given), ("stdout", expected)):
         text = "".join(line + "\n" for line in lines)

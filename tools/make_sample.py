@@ -19,10 +19,20 @@ def cab(i):
     return (11, 17, 20, 23, 31, 40)[i * 9 % 23 % 6]
 
 
-def journal(hires):
-    """The rows of these hires, in order."""
+def way_points(i):
+    """Where the cab passed on its way: metres east and north of the town's south-west corner. Some hires have none."""
+    return [(i * 37 % 90 * 10 + 250 * k, i * 53 % 80 * 10 + 140 * k) for k in range(i % 4)]
+
+
+def withheld(i):
+    """The passenger wants no way points kept."""
+    return i % 13 == 5
+
+
+def journal(hires, under_nulls=True):
+    """The rows of these hires, in order. Way points that are withheld are null; the meter's journal still has them under the null, an extract has not."""
     p = Pack()
-    p.struct(8, [True] * len(hires))
+    p.struct(9, [True] * len(hires))
     # hire number
     p.native(8, [20_260_301_000 + i for i in hires])
     # cab number
@@ -43,6 +53,13 @@ def journal(hires):
     p.flags([Null(i % 3 == 0) if i % 11 == 7 else i % 3 == 0 for i in hires])
     # note
     p.texts([(b"receipt", b"luggage", b"", b"waited 10 min")[i % 4] if i % 5 == 0 else None for i in hires])
+    # way points: a list of them for each hire
+    stored = [way_points(i) if under_nulls or not withheld(i) else [] for i in hires]
+    p.lists([Null(len(points)) if withheld(i) else len(points) for i, points in zip(hires, stored)])
+    points = [point for points in stored for point in points]
+    p.struct(2, [True] * len(points))
+    p.native(2, [east for east, _ in points])
+    p.native(2, [north for _, north in points])
     return p.whole()
 
 
@@ -62,7 +79,7 @@ def mask():
 def main():
     folder = sys.argv[1] if len(sys.argv) > 1 else os.path.join(os.path.dirname(os.path.abspath(__file__)), "..", "sample")
     picked = [i for i in range(HIRES) if owned(i) and not disputed(i)]
-    for name, pack in (("mask", mask()), ("journal", journal(range(HIRES))), ("extract", journal(picked))):
+    for name, pack in (("mask", mask()), ("journal", journal(range(HIRES))), ("extract", journal(picked, under_nulls=False))):
         with open(os.path.join(folder, name + ".pack"), "wb") as f:
             f.write(pack)
 

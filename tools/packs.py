@@ -1,6 +1,7 @@
 """Packs (docs/FORMAT.md, 3) built column by column, parent first. A row is a value; None, a null whose entry is 0 or empty; or
 Null(entry), a null whose entry is that."""
 import struct
+from itertools import accumulate
 
 MARK = bytes.fromhex("434F4C50")
 NO_BITMAP = 0xFFFFFFFF
@@ -76,8 +77,7 @@ class Pack:
         """Bytes with offsets of 32 bits; of 64 if the kind is 5."""
         texts = [entry(row, b"") for row in (*before, *rows)]
         validity = self.bitmap([*before, *rows])
-        offsets = [sum(map(len, texts[:i])) for i in range(len(texts) + 1)]
-        first = self.buffer(numbers(4 if kind == 4 else 8, offsets))
+        first = self.buffer(numbers(4 if kind == 4 else 8, accumulate(map(len, texts), initial=0)))
         data = b"".join(texts)
         return self.node(kind, 0, len(rows), len(before), 0, validity, first, self.buffer(data), len(data))
 
@@ -85,7 +85,7 @@ class Pack:
         """Rows are views; the data buffers come next, each native of width 1."""
         return self.entries(6, 0, before, rows, b"".join(entry(row, bytes(16)) for row in (*before, *rows)), kids)
 
-    def lists(self, rows, before=(), kind=7):
+    def list_views(self, rows, before=(), kind=7):
         """Rows are offset and size, of 32 bits; of 64 if the kind is 8. The child comes next."""
         ranges = [entry(row, (0, 0)) for row in (*before, *rows)]
         validity = self.bitmap([*before, *rows])
@@ -107,6 +107,12 @@ class Pack:
 
     def dictionary(self, width, keys, before=()):
         return self.entries(12, width, before, keys, numbers(width, [entry(row, 0) for row in (*before, *keys)]), 1)
+
+    def lists(self, rows, before=(), kind=13, start=0):
+        """A row is how many child rows it has: they follow one another from row `start` of the child on. Offsets of 32 bits; of 64 if the
+        kind is 14. The child comes next."""
+        sizes = [entry(row, 0) for row in (*before, *rows)]
+        return self.entries(kind, 0, before, rows, numbers(4 if kind == 13 else 8, accumulate(sizes, initial=start)), 1)
 
     def whole(self):
         table = b"".join(struct.pack("<10I", *n) for n in self.nodes)

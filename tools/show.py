@@ -8,10 +8,11 @@ import sys
 PACK_LIMIT, ROW_LIMIT, NODE_LIMIT, DEPTH_LIMIT = 16_777_216, 1_048_576, 64, 8
 NO_BITMAP = 0xFFFFFFFF
 ROWS_SHOWN, ITEMS_SHOWN, BYTES_SHOWN = 100, 5, 40  # a table is for a reader: the rest is counted, not printed
-NAMES = ("", "bits", "native", "fixed", "bytes", "bytes64", "views", "lists", "lists64", "runs", "struct", "union", "dictionary")
+NAMES = ("", "bits", "native", "fixed", "bytes", "bytes64", "views", "list views", "list views64", "runs", "struct", "union", "dictionary",
+         "lists", "lists64")
 PARAMS = {2: (1, 2, 4, 8, 16, 32), 3: range(1025), 9: (2, 4, 8), 12: (1, 2, 4, 8)}
-KIDS = {1: 0, 2: 0, 3: 0, 4: 0, 5: 0, 7: 1, 8: 1, 9: 1, 12: 1}
-WIDTHS = {4: 4, 5: 8, 6: 16, 7: 4, 8: 8, 11: 1}  # of an entry; else param
+KIDS = {1: 0, 2: 0, 3: 0, 4: 0, 5: 0, 7: 1, 8: 1, 9: 1, 12: 1, 13: 1, 14: 1}
+WIDTHS = {4: 4, 5: 8, 6: 16, 7: 4, 8: 8, 11: 1, 13: 4, 14: 8}  # of an entry; else param
 
 
 class Bad(Exception):
@@ -29,7 +30,7 @@ class Node:
         need(depth <= DEPTH_LIMIT, "nested too deep")
         self.body = body
         self.kind, self.param, self.rows, self.skip, kids, self.validity, self.first, self.second, self.length, _ = nodes.pop(0)
-        need(1 <= self.kind <= 12, f"there is no kind {self.kind}")
+        need(1 <= self.kind < len(NAMES), f"there is no kind {self.kind}")
         need(self.param in PARAMS.get(self.kind, (0,)), f"param {self.param} of a {NAMES[self.kind]} node")
         need(KIDS.get(self.kind, kids) == kids, f"{kids} children of a {NAMES[self.kind]} node")
         need(self.skip + self.rows <= ROW_LIMIT, f"{self.skip + self.rows} rows")
@@ -73,6 +74,17 @@ class Node:
         need(offset + size <= data.rows, "a view leaves its data buffer")
         return data.bytes(data.first + data.skip + offset, size)
 
+    def between(self, place, size):
+        """The two offsets of a place; `size` is how much they may reach into."""
+        start, end = (self.number(self.first, place + i, self.width) for i in (0, 1))
+        need(start <= end <= size, "offsets fall or leave the " + ("data" if self.kind in (4, 5) else "child"))
+        return start, end
+
+    def items(self, start, size):
+        """A list, by the child's rows from `start` on."""
+        shown = [self.kids[0].cell(start + i) for i in range(min(size, ITEMS_SHOWN))]
+        return "[" + ", ".join(shown) + (", .." if size > ITEMS_SHOWN else "") + "]"
+
     def cell(self, row):
         need(row < self.rows, "a place is past the child's rows")
         place = self.skip + row
@@ -83,16 +95,17 @@ class Node:
         if self.kind == 3:
             return text(self.bytes(self.first + self.param * place, self.param))
         if self.kind in (4, 5):
-            start, end = (self.number(self.first, place + i, self.width) for i in (0, 1))
-            need(start <= end <= self.length, "offsets fall or leave the data")
+            start, end = self.between(place, self.length)
             return text(self.bytes(self.second + start, end - start))
         if self.kind == 6:
             return text(self.view(place))
         if self.kind in (7, 8):
             start, size = (self.number(at, place, self.width) for at in (self.first, self.second))
-            need(start + size <= self.kids[0].rows, "a list leaves its child")
-            items = [self.kids[0].cell(start + i) for i in range(min(size, ITEMS_SHOWN))]
-            return "[" + ", ".join(items) + (", .." if size > ITEMS_SHOWN else "") + "]"
+            need(start + size <= self.kids[0].rows, "a list view leaves its child")
+            return self.items(start, size)
+        if self.kind in (13, 14):
+            start, end = self.between(place, self.kids[0].rows)
+            return self.items(start, end - start)
         if self.kind == 9:
             return self.kids[0].cell(self.run(place))
         if self.kind == 10:

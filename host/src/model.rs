@@ -89,12 +89,12 @@ fn fields_fit(n: &Node) -> bool {
         FIXED => n.param <= 1024,
         RUNS => [2, 4, 8].contains(&n.param),
         DICTIONARY => [1, 2, 4, 8].contains(&n.param),
-        BITS..=DICTIONARY => n.param == 0,
+        BITS..=LARGE_LIST => n.param == 0,
         _ => false,
     };
     let kids = match n.kind {
         VIEWS | STRUCT | UNION => true,
-        LIST_VIEW | LARGE_LIST_VIEW | RUNS | DICTIONARY => n.kids == 1,
+        LIST_VIEW | LARGE_LIST_VIEW | RUNS | DICTIONARY | LIST | LARGE_LIST => n.kids == 1,
         _ => n.kids == 0,
     };
     let bitmap = n.validity == NO_BITMAP || !matches!(n.kind, RUNS | UNION);
@@ -125,7 +125,7 @@ fn buffers_fit(pack: &Pack, i: usize) -> bool {
     let bitmap = span.div_ceil(8);
     let first = match n.kind {
         BITS => bitmap,
-        BYTES | LARGE_BYTES => (span + 1) * width,
+        BYTES | LARGE_BYTES | LIST | LARGE_LIST => (span + 1) * width,
         RUNS => pack.nodes[i + 1].rows as u64 * width,
         STRUCT => 0,
         _ => span * width,
@@ -147,10 +147,12 @@ fn content_fits(pack: &Pack, i: usize) -> bool {
     let children = pack.children(i);
     let child_rows = |k: usize| pack.nodes[children[k]].rows as i128;
     let first = |place: usize| signed(pack.body, n.first, n.width(), place);
+    // one more than there are rows: from 0 or more, never falling, the last within what they point into
+    let offsets_fit =
+        |end: i128| first(skip) >= 0 && places.clone().all(|p| first(p) <= first(p + 1)) && first(skip + rows) <= end;
     match n.kind {
-        BYTES | LARGE_BYTES => {
-            first(skip) >= 0 && places.all(|p| first(p) <= first(p + 1)) && first(skip + rows) <= n.second_length as i128
-        }
+        BYTES | LARGE_BYTES => offsets_fit(n.second_length as i128),
+        LIST | LARGE_LIST => offsets_fit(child_rows(0)),
         VIEWS => places.all(|p| {
             let view = |field: usize| signed(pack.body, n.first + 4 * field as u32, 4, 4 * p);
             let (length, buffer, offset) = (view(0), view(2), view(3));
@@ -230,21 +232,28 @@ impl Picks {
 /// The rows that each node keeps, rising, counted after the node's skip.
 pub fn kept_rows(journal: &Pack, picked: &[usize]) -> Vec<Vec<usize>> {
     let mut kept: Vec<Vec<usize>> = vec![];
-    for (i, n) in journal.nodes.iter().enumerate() {
-        let rows = match journal.parents[i] {
+    for i in 0..journal.nodes.len() {
+        kept.push(match journal.parents[i] {
             None => picked.to_vec(),
-            Some(p) if kept[p].is_empty() => vec![],
-            Some(p) if journal.nodes[p].carries() => (0..n.rows as usize).collect(),
-            Some(p) if journal.nodes[p].kind == RUNS => {
-                let mut runs = runs_of(journal, p, &kept[p]);
-                runs.dedup();
-                runs
-            }
-            Some(p) => kept[p].clone(),
-        };
-        kept.push(rows);
+            Some(p) => kept_below(journal, i, p, &kept[p]),
+        });
     }
     kept
+}
+
+/// The rows that node `i` keeps if its parent `p` keeps the rows `above`.
+pub fn kept_below(journal: &Pack, i: usize, p: usize, above: &[usize]) -> Vec<usize> {
+    match &journal.nodes[p] {
+        _ if above.is_empty() => vec![],
+        parent if parent.carries() => (0..journal.nodes[i].rows as usize).collect(),
+        parent if parent.kind == RUNS => {
+            let mut runs = runs_of(journal, p, above);
+            runs.dedup();
+            runs
+        }
+        parent if parent.is_list() => above.iter().flat_map(|&row| own_rows(journal, p, row)).collect(),
+        _ => above.to_vec(),
+    }
 }
 
 /// The run of each row of a runs node; the rows rise.
@@ -261,15 +270,26 @@ fn runs_of(journal: &Pack, i: usize, rows: &[usize]) -> Vec<usize> {
         .collect()
 }
 
-/// Bytes of scratch needed: a bit for each row of each runs node's child.
+/// The child rows that a row of a list node keeps: its own, and none if it is null.
+fn own_rows(journal: &Pack, i: usize, row: usize) -> std::ops::Range<usize> {
+    let offset = |row: usize| journal.first(i, journal.nodes[i].skip as usize + row) as usize;
+    if journal.valid(i, row) { offset(row)..offset(row + 1) } else { 0..0 }
+}
+
+/// Bytes of scratch needed: a bit for each row of the child of each runs node and of each list node.
 pub fn scratch_needed(journal: &Pack) -> usize {
+    let counted = |n: &Node| n.kind == RUNS || n.is_list();
     let child = |i: usize| journal.nodes[i + 1].rows as usize;
-    (0..journal.nodes.len()).filter(|&i| journal.nodes[i].kind == RUNS).map(|i| child(i).div_ceil(8)).sum()
+    (0..journal.nodes.len()).filter(|&i| counted(&journal.nodes[i])).map(|i| child(i).div_ceil(8)).sum()
 }
 
 /// The extract's bytes; `None` if they are more than a pack may have.
 pub fn extract(journal: &Pack, picked: &[usize]) -> Option<Vec<u8>> {
-    let kept = kept_rows(journal, picked);
+    write(journal, &kept_rows(journal, picked))
+}
+
+/// The pack that has these rows of each node; `None` if it has more bytes than a pack may have.
+pub fn write(journal: &Pack, kept: &[Vec<usize>]) -> Option<Vec<u8>> {
     let mut body = vec![];
     let mut nodes = vec![];
     for (i, kept) in kept.iter().enumerate() {
@@ -324,6 +344,15 @@ fn write_node(journal: &Pack, i: usize, kept: &[usize], body: &mut Vec<u8>) -> N
             new.first = put(body, &offsets);
             new.second = put(body, &data);
             new.second_length = data.len() as u32;
+        }
+        LIST | LARGE_LIST => {
+            let mut offsets = 0u64.to_le_bytes()[..width].to_vec();
+            let mut end = 0;
+            for &row in kept {
+                end += own_rows(journal, i, row).len() as u64;
+                offsets.extend(&end.to_le_bytes()[..width]);
+            }
+            new.first = put(body, &offsets);
         }
         LIST_VIEW | LARGE_LIST_VIEW => {
             new.first = put(body, &entries(n.first, kept));

@@ -27,6 +27,10 @@ pub const RUNS: u32 = 9;
 pub const STRUCT: u32 = 10;
 pub const UNION: u32 = 11;
 pub const DICTIONARY: u32 = 12;
+pub const LIST: u32 = 13;
+pub const LARGE_LIST: u32 = 14;
+/// Kinds are numbered from 1 to this.
+pub const KINDS: usize = 14;
 
 /// The ten fields of a node.
 #[derive(Debug, Clone, Copy, PartialEq)]
@@ -66,8 +70,8 @@ impl Node {
     /// Bytes of an entry: value, offset, size, view, run end, id or key.
     pub fn width(&self) -> usize {
         match self.kind {
-            BYTES | LIST_VIEW => 4,
-            LARGE_BYTES | LARGE_LIST_VIEW => 8,
+            BYTES | LIST_VIEW | LIST => 4,
+            LARGE_BYTES | LARGE_LIST_VIEW | LARGE_LIST => 8,
             VIEWS => 16,
             UNION => 1,
             _ => self.param as usize,
@@ -76,6 +80,10 @@ impl Node {
     /// The child goes along with all its rows.
     pub fn carries(&self) -> bool {
         matches!(self.kind, VIEWS | LIST_VIEW | LARGE_LIST_VIEW | DICTIONARY)
+    }
+    /// Rows are ranges of the child's rows, one after the other.
+    pub fn is_list(&self) -> bool {
+        matches!(self.kind, LIST | LARGE_LIST)
     }
 }
 

@@ -156,6 +156,99 @@ pub fn refusals() -> Vec<Case> {
     ]
 }
 
+/// Lists with these offsets over native rows of 4 bytes, with a bitmap of one byte if one is given.
+fn list(offsets: &[u32], bitmap: Option<u8>, values: &[u32]) -> Vec<u8> {
+    let (body, nodes) = list_parts(offsets, bitmap, values);
+    finish(body, &nodes)
+}
+
+fn list_parts(offsets: &[u32], bitmap: Option<u8>, values: &[u32]) -> (Vec<u8>, [Node; 2]) {
+    let mut body = numbers(&[offsets, values].concat());
+    let mut list = node(LIST, 0, offsets.len() - 1, 1, 0);
+    if let Some(marks) = bitmap {
+        list.validity = body.len() as u32;
+        body.push(marks);
+    }
+    (body, [list, node(NATIVE, 4, values.len(), 0, 4 * offsets.len())])
+}
+
+/// The same in 64 bits.
+fn large_list(offsets: &[u64], values: &[u32]) -> Vec<u8> {
+    let mut body: Vec<u8> = offsets.iter().flat_map(|offset| offset.to_le_bytes()).collect();
+    body.extend(numbers(values));
+    finish(body, &[node(LARGE_LIST, 0, offsets.len() - 1, 1, 0), node(NATIVE, 4, values.len(), 0, 8 * offsets.len())])
+}
+
+/// Kinds 13 and 14, worked out by hand from the rules.
+pub fn lists() -> Vec<Case> {
+    let case = |name, slots, journal, line| Case::new(name, mask(slots), journal, line);
+    // a good list with one field changed
+    let with = |change: fn(&mut Node)| {
+        let (body, mut nodes) = list_parts(&[0, 2, 3], None, &[1, 2, 3]);
+        change(&mut nodes[0]);
+        finish(body, &nodes)
+    };
+    let two_kids = {
+        let (body, nodes) = list_parts(&[0, 2, 3], None, &[1, 2, 3]);
+        finish(body, &[Node { kids: 2, ..nodes[0] }, nodes[1], nodes[1]])
+    };
+    // the one list has no row, so nothing below has one
+    let of_list_views = {
+        let body = numbers(&[0, 0, 0, 1, 7]);
+        let views = Node { second: 12, ..node(LIST_VIEW, 0, 1, 1, 8) };
+        finish(body, &[node(LIST, 0, 1, 1, 0), views, node(NATIVE, 4, 1, 0, 16)])
+    };
+    // [[1], [2, 3]], null over [[4]], [[5]]
+    let nested = {
+        let body = [numbers(&[0, 2, 3, 4, 0, 1, 3, 4, 5, 1, 2, 3, 4, 5]), vec![0b101]].concat();
+        let outer = Node { validity: 56, ..node(LIST, 0, 3, 1, 0) };
+        finish(body, &[outer, node(LIST, 0, 4, 1, 16), node(NATIVE, 4, 5, 0, 36)])
+    };
+    let nine: Vec<u32> = (1..=9).collect();
+    let short = |scratch, line| Case { scratch, ..case("lists: a child of 9 rows", "F", list(&[0, 0], None, &nine), line) };
+    let most = ROW_LIMIT as usize;
+    // one list has all the rows that a node may have
+    let whole = {
+        let body = [numbers(&[0, ROW_LIMIT as u32]), vec![7; most]].concat();
+        finish(body, &[node(LIST, 0, 1, 1, 0), node(NATIVE, 1, most, 0, 8)])
+    };
+    let longest = |name, scratch, line| Case { scratch, output: 1 << 21, ..case(name, "T", whole.clone(), line) };
+    vec![
+        case("lists: a row dropped", "TFT", list(&[0, 2, 4, 5], None, &[1, 2, 8, 9, 3]), "rows 2 of 3 route indices bytes 128")
+            .with(0, &numbers(&[0, 2, 3, 0, 1, 2, 3])),
+        case("lists: the first row dropped", "FT", list(&[0, 2, 4], None, &[8, 9, 1, 2]), "rows 1 of 2 route indices bytes 112")
+            .with(0, &numbers(&[0, 2, 1, 2])),
+        case("lists: a null row", "TTT", list(&[0, 2, 3, 4], Some(0b101), &[1, 2, 9, 3]), "rows 3 of 3 route all bytes 136")
+            .with(0, &numbers(&[0b101, 0, 0, 2, 2, 3, 1, 2, 3])),
+        case("lists: child rows of no row", "TT", list(&[1, 2, 4], None, &[9, 1, 2, 3, 9]), "rows 2 of 2 route all bytes 128")
+            .with(0, &numbers(&[0, 1, 3, 0, 1, 2, 3])),
+        case("lists: 64 bits", "FT", large_list(&[0, 2, 4], &[8, 9, 1, 2]), "rows 1 of 2 route indices bytes 120")
+            .with(0, &numbers(&[0, 0, 2, 0, 1, 2])),
+        case("lists: in lists", "TTT", nested, "rows 3 of 3 route all bytes 192")
+            .with(0, &numbers(&[0b101, 0, 0, 2, 2, 3, 0, 1, 3, 4, 1, 2, 3, 5])),
+        case("lists: empty above a carried child", "T", of_list_views, "rows 1 of 1 route all bytes 144"),
+        case("lists: no row", "", list(&[2], None, &[1, 2]), "rows 0 of 0 route none bytes 104"),
+        case("lists: no row, an offset past the child", "", list(&[3], None, &[1, 2]), "refused 8 journal"),
+        case("lists: an offset below 0", "T", list(&[u32::MAX, 1], None, &[1, 2]), "refused 8 journal"),
+        case("lists: an offset falls", "T", list(&[0, 2, 1], None, &[1, 2]), "refused 8 journal"),
+        case("lists: an offset falls at a null row", "T", list(&[0, 2, 1], Some(0b01), &[1, 2]), "refused 8 journal"),
+        case("lists: the last offset past the child", "T", list(&[0, 1, 3], None, &[1, 2]), "refused 8 journal"),
+        case("lists: an offset that agrees in 32 bits", "T", large_list(&[0, 1 << 32 | 1], &[1, 2]), "refused 8 journal"),
+        case("lists: a param", "T", with(|n| n.param = 4), "refused 4 journal"),
+        case("lists: no child", "T", with(|n| n.kids = 0), "refused 4 journal"),
+        case("lists: two children", "T", two_kids, "refused 4 journal"),
+        case("lists: a second buffer", "T", with(|n| n.second = 4), "refused 4 journal"),
+        case("lists: a second length", "T", with(|n| n.second_length = 1), "refused 4 journal"),
+        case("lists: kind 15", "T", with(|n| n.kind = 15), "refused 4 journal"),
+        case("lists: the last offset leaves the body", "T", with(|n| n.first = 16), "refused 7 journal"),
+        short(1, "refused 13 journal"),
+        short(2, "rows 0 of 1 route none bytes 104"),
+        longest("lists: 1,048,576 child rows", 131_072, "rows 1 of 1 route all bytes 1048680")
+            .with(0, &numbers(&[0, ROW_LIMIT as u32])),
+        longest("lists: scratch one short", 131_071, "refused 13 journal"),
+    ]
+}
+
 /// A struct whose extract by one more `data` byte passes a multiple of 8: 31 fixed children over one buffer, and bytes.
 fn large(data: usize) -> Vec<u8> {
     let (rows, width) = (512, 1024);

@@ -18,8 +18,9 @@ const SMALL: usize = 480;
 const BEFORE: u8 = 0xA5;
 const BEFORE_ENTRY: u32 = 0xA5A5_A5A5;
 
-const KINDS: [&str; 12] = [
-    "bits", "native", "fixed", "bytes", "bytes64", "views", "list-views", "list-views64", "runs", "struct", "union", "dictionary",
+const NAMES: [&str; KINDS] = [
+    "bits", "native", "fixed", "bytes", "bytes64", "views", "list-views", "list-views64", "runs", "struct", "union",
+    "dictionary", "lists", "lists64",
 ];
 
 /// A call that the program has room for.
@@ -39,16 +40,18 @@ impl Case {
     }
 }
 
-/// Case `i`: the root's kind is given by `i`, three of ten have damage to a pack, and each of the four calls comes in turn.
+/// Case `i`: the root's kind is given by `i`, three of ten have damage to a pack or a mask that is none, and each of the four calls
+/// comes in turn.
 pub fn case(r: &mut Rng, i: u64) -> Case {
     loop {
-        let kind = 1 + (i % 12) as u32;
+        let kind = 1 + (i % KINDS as u64) as u32;
         let (mut mask, mut journal) = make::case(r);
         if Pack::read(&journal).unwrap().nodes[0].kind != kind {
             continue;
         }
         let damaged = i % 10 < 3;
         match i % 10 {
+            0 if r.percent(10) => mask = journal.clone(),
             0 => mask = damage(r, &mask),
             1 | 2 => journal = damage(r, &journal),
             _ => {}
@@ -58,7 +61,7 @@ pub fn case(r: &mut Rng, i: u64) -> Case {
         terms.stated = terms.stated.map(|count| count % (1 << 32));
         let small = mask.len() + journal.len() <= SMALL && journal.len().max(mask.len()) <= PACK_ROOM;
         if small && terms.list <= LIST_ROOM && terms.scratch <= SCRATCH_ROOM && terms.output <= PACK_ROOM {
-            let name = format!("{i}-{}{}", KINDS[kind as usize - 1], if damaged { "-damaged" } else { "" });
+            let name = format!("{i}-{}{}", NAMES[kind as usize - 1], if damaged { "-damaged" } else { "" });
             return Case { name, mask, journal, terms };
         }
     }
@@ -72,7 +75,7 @@ pub struct Replay {
     pub answers: [u64; 15],
     pub lazy: [u64; 4],
     pub stored: [u64; 4],
-    pub kinds: [u64; 13],
+    pub kinds: [u64; KINDS + 1],
 }
 
 impl Replay {

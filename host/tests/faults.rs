@@ -241,3 +241,168 @@ fn refuses_an_exact_output() {
         end => end,
     });
 }
+
+/// The call by a port whose lists keep other child rows: `below` gives them for a list node of a journal and the rows that it keeps.
+fn with_child_rows(call: &Call, below: impl Fn(&Pack, usize, &[usize]) -> Vec<usize>) -> Return {
+    let end = model::filter(call);
+    let Answer::Done { kept, slots, route, .. } = end.answer else { return end };
+    let journal = Pack::read(call.journal).unwrap();
+    let mut rows: Vec<Vec<usize>> = vec![];
+    for i in 0..journal.nodes.len() {
+        rows.push(match journal.parents[i] {
+            None => Picks::of(call.mask).picked,
+            Some(p) if journal.nodes[p].is_list() && !rows[p].is_empty() => below(&journal, p, &rows[p]),
+            Some(p) => model::kept_below(&journal, i, p, &rows[p]),
+        });
+    }
+    match model::write(&journal, &rows) {
+        Some(extract) if extract.len() <= call.output.len() => {
+            let mut output = call.output.to_vec();
+            output[..extract.len()].copy_from_slice(&extract);
+            Return { answer: Answer::Done { kept, slots, route, bytes: extract.len() as u64 }, output, ..end }
+        }
+        _ => refused(call, 14, Named::Journal),
+    }
+}
+
+/// The offset before, or behind, a row of a list node.
+fn offset(journal: &Pack, i: usize, row: usize) -> usize {
+    journal.first(i, journal.nodes[i].skip as usize + row) as usize
+}
+
+#[test]
+fn keeps_child_rows_of_null_lists() {
+    is_noticed(|call| {
+        with_child_rows(call, |journal, i, rows| {
+            rows.iter().flat_map(|row| offset(journal, i, *row)..offset(journal, i, row + 1)).collect()
+        })
+    });
+}
+
+#[test]
+fn keeps_child_rows_of_dropped_lists() {
+    is_noticed(|call| with_child_rows(call, |journal, i, _| (0..journal.nodes[i + 1].rows as usize).collect()));
+}
+
+#[test]
+fn loses_the_last_child_row_of_lists() {
+    is_noticed(|call| {
+        with_child_rows(call, |journal, i, rows| {
+            let mut below = model::kept_below(journal, i + 1, i, rows);
+            below.pop();
+            below
+        })
+    });
+}
+
+/// The call by a port that writes other offsets of lists: `change` is given the journal, the list node and the rows that it keeps.
+fn with_offsets(call: &Call, change: impl Fn(&Pack, usize, &[usize], &mut [u64])) -> Return {
+    let mut end = model::filter(call);
+    let Answer::Done { bytes, .. } = end.answer else { return end };
+    let journal = Pack::read(call.journal).unwrap();
+    let kept = model::kept_rows(&journal, &Picks::of(call.mask).picked);
+    let nodes = Pack::read(&end.output[..bytes as usize]).unwrap().nodes;
+    for (i, n) in nodes.iter().enumerate().filter(|(_, n)| n.is_list()) {
+        let place = |k: usize| n.first as usize + k * n.width();
+        let mut offsets: Vec<u64> = (0..=kept[i].len()).map(|k| number(&end.output, place(k), n.width())).collect();
+        change(&journal, i, &kept[i], &mut offsets);
+        for (k, offset) in offsets.iter().enumerate() {
+            end.output[place(k)..place(k + 1)].copy_from_slice(&offset.to_le_bytes()[..n.width()]);
+        }
+    }
+    end
+}
+
+#[test]
+fn starts_offsets_of_lists_at_the_source() {
+    is_noticed(|call| {
+        with_offsets(call, |journal, i, kept, offsets| {
+            let base = kept.first().map_or(0, |row| offset(journal, i, *row) as u64);
+            offsets.iter_mut().for_each(|offset| *offset += base);
+        })
+    });
+}
+
+#[test]
+fn counts_child_rows_of_null_lists() {
+    is_noticed(|call| {
+        with_offsets(call, |journal, i, kept, offsets| {
+            for (k, row) in kept.iter().enumerate() {
+                offsets[k + 1] = offsets[k] + (offset(journal, i, row + 1) - offset(journal, i, *row)) as u64;
+            }
+        })
+    });
+}
+
+#[test]
+fn counts_no_scratch_for_lists() {
+    is_noticed(|call| {
+        if model::check(call.journal) != 0 {
+            return model::filter(call);
+        }
+        let journal = Pack::read(call.journal).unwrap();
+        let runs = (0..journal.nodes.len()).filter(|i| journal.nodes[*i].kind == RUNS);
+        let counted: usize = runs.map(|i| (journal.nodes[i + 1].rows as usize).div_ceil(8)).sum();
+        if call.scratch.len() < counted {
+            return model::filter(call);
+        }
+        // all that is needed, of which what is not counted stays as it was
+        let mut scratch = call.scratch.to_vec();
+        scratch.resize(scratch.len().max(model::scratch_needed(&journal)), 0);
+        let mut end = model::filter(&Call { scratch: &scratch, ..*call });
+        end.scratch.truncate(call.scratch.len());
+        end.scratch[counted..].copy_from_slice(&call.scratch[counted..]);
+        end
+    });
+}
+
+/// The model, with its verdict on journals replaced.
+struct Lax<F: Fn(&[u8]) -> u64>(F);
+
+impl<F: Fn(&[u8]) -> u64> Port for Lax<F> {
+    fn filter(&self, call: &Call) -> Result<Return, String> {
+        Model.filter(call)
+    }
+    fn prepare(&self, mask: &[u8], stated: Option<u64>, asked: bool, list: &[u32]) -> Result<(Answer, Vec<u32>), String> {
+        Model.prepare(mask, stated, asked, list)
+    }
+    fn check(&self, pack: &[u8]) -> u64 {
+        self.0(pack)
+    }
+    fn check_mask(&self, mask: &[u8]) -> u64 {
+        model::check_mask(mask)
+    }
+}
+
+/// Refusal 8 is not given to packs whose root is such a list.
+#[track_caller]
+fn leniency_is_noticed(list: impl Fn(&Pack) -> bool) {
+    let lax = |bytes: &[u8]| match model::check(bytes) {
+        8 if Pack::read(bytes).is_some_and(|pack| pack.nodes[0].is_list() && list(&pack)) => 0,
+        verdict => verdict,
+    };
+    assert_ne!(differences(&Lax(lax)), 0);
+}
+
+#[test]
+fn takes_a_list_past_its_child() {
+    leniency_is_noticed(|pack| {
+        let rows = pack.nodes[0].rows as usize;
+        let rising = (0..rows).all(|row| offset(pack, 0, row) <= offset(pack, 0, row + 1));
+        rising && offset(pack, 0, rows) > pack.nodes[1].rows as usize
+    });
+}
+
+#[test]
+fn takes_falling_offsets_of_lists() {
+    leniency_is_noticed(|pack| {
+        let rows = pack.nodes[0].rows as usize;
+        let falling = (0..rows).any(|row| offset(pack, 0, row) > offset(pack, 0, row + 1));
+        falling && offset(pack, 0, rows) <= pack.nodes[1].rows as usize
+    });
+}
+
+#[test]
+fn tests_no_offset_of_a_list_with_no_row() {
+    leniency_is_noticed(|pack| pack.nodes[0].rows == 0);
+}

@@ -3,8 +3,8 @@ use host::port::Model;
 use host::{compare, make, paper};
 
 #[test]
-fn bench_cases_and_refusals() {
-    for case in paper::bench().iter().chain(&paper::refusals()) {
+fn bench_cases_refusals_and_lists() {
+    for case in paper::bench().iter().chain(&paper::refusals()).chain(&paper::lists()) {
         compare::paper_case(&Model, case).unwrap_or_else(|why| panic!("{}: {why}", case.name));
     }
 }

@@ -7,7 +7,7 @@ use lib.ListN.{length, set, length-append, length-map}
 use Rattle.format.specs.declared.Kind.{Kind}
 use Rattle.format.specs.Accepted.{Sound}
 use Rattle.format.specs.Bytes.{join}
-use Rattle.format.specs.Kept.{Cells, flags, entries, texts, ranges, groups, nothing, KeptNode, keptNode}
+use Rattle.format.specs.Kept.{Cells, flags, entries, texts, ranges, groups, spans, nothing, KeptNode, keptNode}
 use Rattle.format.specs.Node.{noBitmap, nodeCount, kindOf, kind, rows, places, child}
 use Rattle.format.specs.Put.{put}
 use Rattle.format.specs.Verdict.{packLimit}
@@ -55,6 +55,7 @@ data-within at (entries es) = omega arith
 data-within at (texts w ts) = omega (arith, length-append (padding at) (join ts))
 data-within at (ranges os ss) = omega arith
 data-within at (groups w sizes) = omega arith
+data-within at (spans w sizes) = omega arith
 data-within at nothing = omega arith
 
 further : (at : ℕ) (x : Buffer) → at ≤ ending at x

@@ -6,6 +6,7 @@ ghost use Rattle.format.specs.Bytes.{packed};
 ghost use Rattle.format.specs.Write.{holds, numbers, offsets};
 ghost use Rattle.append.specs.Cells.{entriesOf, Entries};
 ghost use Rattle.texts.specs.Texts.{offset, sizesOf, textsOf, Offsets, Texts};
+ghost use Rattle.list_columns.specs.Spans.{reach, Spans};
 ghost use Rattle.bitmaps.specs.Push.{bitFrom};
 ghost use Rattle.runs.specs.Groups.{EndsLie, sizeAt, endBytes};
 ghost use Rattle.predicate.specs.Selection.{Holds, Readable, Sourced, keptBy};
@@ -160,6 +161,41 @@ pub fn put_texts64(
         journal,
         place,
         data_at,
+        sel,
+        s,
+        mask,
+        list,
+    );
+    Placed { start, next }
+}
+
+// The offsets of the kept rows of a list rebuilt from 0, width bytes each, row 0's at `place` and its validity bit at bit `from`: a null row has no child row.
+pub fn put_spans(
+    out: &mut [u8],
+    at: usize,
+    journal: &[u8],
+    width: usize,
+    place: usize,
+    from: usize,
+    sel: Selection,
+    s: &[u8],
+    mask: Bits,
+    list: &[u32],
+) -> Placed
+    requires { ⌜ Readable sel (now s) mask ⌝ }
+    requires { ⌜ Holds sel (keptBy sel (now s) mask) (mask .len) (now list) ⌝ }
+    requires { ⌜ Spans width (now journal) place from (mask .len) ⌝ }
+    requires { ⌜ at + length (appended at (holds (numbers width (offsets (sizesOf (reach width (now journal) place from) (rowsBy sel (now s) mask)))))) ≤ length (now out) ⌝ }
+    ensures { λ r. ⌜ Puts 0 (holds (numbers width (offsets (sizesOf (reach width (now (journal .entry)) place from) (rowsBy sel (now (s .entry)) mask))))) (now (out .entry)) at (now (out .exit)) r ⌝ }
+{
+    let start = append::fields::pad(out, at);
+    let next = list_columns::filter_spans(
+        out,
+        start,
+        journal,
+        width,
+        place,
+        from,
         sel,
         s,
         mask,

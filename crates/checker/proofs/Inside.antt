@@ -9,9 +9,9 @@ use borrow.Author.Tests.{not-false, eq-eqb, ne-eqb}
 use lib.Dec.{ltb}
 use lib.ListN.{length}
 use Rattle.format.specs.declared.Kind.{Kind}
-use Rattle.format.specs.declared.Kind.the-variants.{Bytes32, Bytes64, Views, Lists32, Lists64, Runs, Union, Dictionary}
+use Rattle.format.specs.declared.Kind.the-variants.{Bytes32, Bytes64, Views, Lists32, Lists64, Runs, Union, Dictionary, Nested32, Nested64}
 use Rattle.format.specs.Bytes.{anyBelow, bytesFor}
-use Rattle.format.specs.Node.{tableStart, nodeCount, noBitmap, kindOf, kind, param, rows, kids, places, hasNoBitmap, child, Ancestor, ancestor, closed, oneLess, ancestors}
+use Rattle.format.specs.Node.{tableStart, nodeCount, noBitmap, kindOf, kind, param, rows, kids, secondLength, places, hasNoBitmap, child, Ancestor, ancestor, closed, oneLess, ancestors}
 use Rattle.format.specs.Verdict.{oneOf, firstSize, secondSize, badContent, empty, notClosed, wrongTree}
 use Rattle.content.specs.Numbers.{badOffsetsAt, badRangeAt, badKey, badValidKey, badRunsAt, badViewAt, Lengths}
 use Rattle.format.proofs.Accepted.{or-left, or-right}
@@ -99,6 +99,12 @@ module _ {b : List ℕ} {i : ℕ} {n : Node} {k : Kind} {m : ℕ} (l : Looked b 
   pub offsets64-in : k ≡ Bytes64 → n .«first_at» + 8 * n .skip + 8 * n .rows + 8 ≤ length b
   offsets64-in e = omega (arith, first-in e)
 
+  pub nested32-in : k ≡ Nested32 → n .«first_at» + 4 * n .skip + 4 * n .rows + 4 ≤ length b
+  nested32-in e = omega (arith, first-in e)
+
+  pub nested64-in : k ≡ Nested64 → n .«first_at» + 8 * n .skip + 8 * n .rows + 8 ≤ length b
+  nested64-in e = omega (arith, first-in e)
+
   pub lists32-in : k ≡ Lists32 → (n .«first_at» + 4 * n .skip + 4 * n .rows ≤ length b) × (n .«second_at» + 4 * n .skip + 4 * n .rows ≤ length b)
   lists32-in e = (omega (arith, first-in e), omega (arith, second-in e))
 
@@ -120,11 +126,19 @@ module _ {b : List ℕ} {i : ℕ} {n : Node} {k : Kind} {m : ℕ} (l : Looked b 
 
   pub offsets32-is : k ≡ Bytes32 → badOffsetsAt 4 b (n .«first_at» + 4 * n .skip) (n .rows) (n .«second_length») ≡ badContent (kind b i) b i
   unfolding badContent
-  offsets32-is e = rw (kind-is e, l .read) (offsets-at b i 4)
+  offsets32-is e = rw (kind-is e, l .read) (offsets-at b i 4 (secondLength b i))
 
   pub offsets64-is : k ≡ Bytes64 → badOffsetsAt 8 b (n .«first_at» + 8 * n .skip) (n .rows) (n .«second_length») ≡ badContent (kind b i) b i
   unfolding badContent
-  offsets64-is e = rw (kind-is e, l .read) (offsets-at b i 8)
+  offsets64-is e = rw (kind-is e, l .read) (offsets-at b i 8 (secondLength b i))
+
+  pub nested32-is : k ≡ Nested32 → badOffsetsAt 4 b (n .«first_at» + 4 * n .skip) (n .rows) m ≡ badContent (kind b i) b i
+  unfolding badContent
+  nested32-is e = rw (kind-is e, l .read, l .under) (offsets-at b i 4 (rows b (child i)))
+
+  pub nested64-is : k ≡ Nested64 → badOffsetsAt 8 b (n .«first_at» + 8 * n .skip) (n .rows) m ≡ badContent (kind b i) b i
+  unfolding badContent
+  nested64-is e = rw (kind-is e, l .read, l .under) (offsets-at b i 8 (rows b (child i)))
 
   pub lists32-is : k ≡ Lists32 → anyBelow (badRangeAt 4 b (n .«first_at» + 4 * n .skip) (n .«second_at» + 4 * n .skip) m) (n .rows) ≡ badContent (kind b i) b i
   unfolding badContent

@@ -30,6 +30,8 @@ pub fn first_size(kind: Kind, param: u32, n: u64, c: u32) -> u64
         Kind::Struct => 0,
         Kind::Union => n,
         Kind::Dictionary => p * n,
+        Kind::Nested32 => 4 * (n + 1),
+        Kind::Nested64 => 8 * (n + 1),
         Kind::Unknown => 0,
     }
 }
@@ -52,6 +54,8 @@ pub fn second_size(kind: Kind, n: u64, length: u32) -> u64
         Kind::Struct => 0,
         Kind::Union => 0,
         Kind::Dictionary => 0,
+        Kind::Nested32 => 0,
+        Kind::Nested64 => 0,
         Kind::Unknown => 0,
     }
 }

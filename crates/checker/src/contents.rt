@@ -68,6 +68,8 @@ fn bad_content(pack: &[u8], i: u32) -> bool
         Kind::Struct => false,
         Kind::Union => bad_keys8(pack, at + skip, rows, n.kids),
         Kind::Dictionary => bad_dictionary(pack, i),
+        Kind::Nested32 => bad_offsets32(pack, at + 4 * skip, rows, below),
+        Kind::Nested64 => bad_offsets64(pack, at + 8 * skip, rows, below),
         Kind::Unknown => false,
     }
 }

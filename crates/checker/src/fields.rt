@@ -63,6 +63,8 @@ fn bad_fields(pack: &[u8], i: u32) -> bool
             let width = (p == 1) | (p == 2) | (p == 4) | (p == 8);
             misfits(n, width, k == 1, true, true, false, false)
         }
+        Kind::Nested32 => misfits(n, p == 0, k == 1, true, true, false, false),
+        Kind::Nested64 => misfits(n, p == 0, k == 1, true, true, false, false),
         Kind::Unknown => true,
     }
 }

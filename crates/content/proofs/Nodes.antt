@@ -26,14 +26,14 @@ module _ (b : List ℕ) (i : ℕ) where
   unfolding secondNumber number
   second-number w r = ap (le w b) (after-skip w (secondAt b i) r)
 
-  pub offsets-at : (w : ℕ) → badOffsetsAt w b (firstAt b i + w * skip b i) (rows b i) (secondLength b i) ≡ badOffsets w b i
+  pub offsets-at : (w size : ℕ) → badOffsetsAt w b (firstAt b i + w * skip b i) (rows b i) size ≡ badOffsets w size b i
   unfolding badOffsets badOffsetsAt falls
-  offsets-at w =
+  offsets-at w size =
       let f : (r : ℕ) → number w b (firstAt b i + w * skip b i) r ≡ firstNumber w b i r = λ r. sym (first-number w r) in
       ap₂ _||_
       (ap₂ _||_ (ap (negative w) (f 0))
       (any-ext _ _ (rows b i) (λ r l. ap₂ _||_ (ap (negative w) (f (suc r))) (ap₂ ltb (f (suc r)) (f r)))))
-      (ap (ltb (secondLength b i)) (f (rows b i)))
+      (ap (ltb size) (f (rows b i)))
 
   pub lists-at : (w n : ℕ) → anyBelow (badRangeAt w b (firstAt b i + w * skip b i) (secondAt b i + w * skip b i) (rows b (child i))) n ≡ anyBelow (badRange w b i) n
   unfolding badRange badRangeAt

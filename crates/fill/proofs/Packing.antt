@@ -1,14 +1,14 @@
 -- The tests of rows packed a byte at a time. Assumes nothing.
-use Prim.Native.Nat.{ℕ, zero, suc, _+_, _-_, _*_, _/_, _%_, _^_, _≤_, _<_, min}
+use Prim.Native.Nat.{ℕ, suc, _+_, _-_, _*_, _/_, _%_, _^_, _≤_, _<_, min}
 use mathlib.Core.Bool.{Bool, true, false}
 use mathlib.Core.List.{List, [], _∷_, _++_, append-nil}
 use mathlib.Core.Logic.{dite}
 use mathlib.Core.Path.{_≡_, refl, sym, ap, _∙_}
-use native.Mathlib.Nat.{lt-of-lt-of-le, add-zero, add-suc, suc-add}
+use native.Mathlib.Nat.{lt-of-lt-of-le}
 use native.Mathlib.Decide.{decLe}
 use native.Mathlib.Omega.{arith}
 use mir.Val.{boolByte}
-use lib.ListN.{length, getD, set}
+use lib.ListN.{length, set}
 use lib.Pow.{pow-mono}
 use Rattle.format.specs.Bytes.{table, one, toLe, bytesFor, packed, bitIn}
 use Rattle.format.specs.Words.{wordOf}
@@ -19,31 +19,18 @@ use Rattle.format.proofs.Measure.{length-packed}
 use Rattle.format.proofs.SlotLaws.{length-slots, slots-cat}
 use Rattle.format.proofs.WordLaws.{word-lt, from-lt, from-cat}
 use Rattle.format.proofs.PackedLaws.{packed-word, packed-append, bit-packed}
+use Rattle.marks.proofs.Stored.{getD-slots}
 
--- ---- a byte made row by row, the last row first
+-- ---- a byte made row by row
 
 byte-one : (t : Bool) → boolByte t ≡ one t
 byte-one true = refl
 byte-one false = refl
 
 module _ (p : ℕ → Bool) where
-  -- fewer than eight rows leave room for one more
-  pub word-few : (n i x : ℕ) → x ≡ wordFrom p n i → n ≤ 7 → x < 128
-  word-few n i x e h = rw e (lt-of-lt-of-le (from-lt p n i) (pow-mono h))
-
   pub word-none : (to : ℕ) → 0 ≡ wordFrom p (to - to) to
   unfolding wordFrom slotsFrom wordOf
   word-none to = let e : to - to ≡ 0 = omega arith in rw e
-
-  -- the row before them is the lowest bit
-  pub word-more : (to r row x : ℕ) (t : Bool) → row + 1 ≡ r → r ≤ to → x ≡ wordFrom p (to - r) r → t ≡ p row → 2 * x + boolByte t ≡ wordFrom p (to - row) row
-  unfolding wordFrom slotsFrom wordOf
-  word-more to r row x t er l ex et =
-      let n : to - row ≡ suc (to - r) = omega arith in
-      let s : suc row ≡ r = omega arith in
-      rw (n, s, ← et) (omega (arith, byte-one t))
-
--- ---- a byte made row by row, the first row first
 
 bit-small : (t : Bool) (n : ℕ) → n ≤ 7 → boolByte t * 2 ^ n % 256 ≡ one t * 2 ^ n
 bit-small true n h = omega (arith, pow-mono h)
@@ -126,12 +113,6 @@ module _ (p : ℕ → Bool) (len r : ℕ) {old : List ℕ} {at : ℕ} {new : Lis
   bytes-done n e h = rw (← e) (done l (rows-none p len r h) refl)
 
 -- ---- its bits
-
-getD-slots : (p : ℕ → Bool) (n i j : ℕ) → j < n → getD (slotsFrom p n i) j false ≡ p (i + j)
-unfolding slotsFrom
-getD-slots p zero i j h = absurd (omega arith)
-getD-slots p (suc n) i zero h = ap p (sym (add-zero i))
-getD-slots p (suc n) i (suc j) h = getD-slots p n (suc i) j (omega arith) ∙ rw (suc-add, add-suc)
 
 pub bit-rows : (p : ℕ → Bool) (n j : ℕ) → j < n → bitIn (packed (slotsFrom p n 0)) j ≡ p j
 bit-rows p n j h = bit-packed (slotsFrom p n 0) j ∙ getD-slots p n 0 j h ∙ ap p (omega arith)

@@ -11,13 +11,13 @@ use borrow.Author.Tests.{ltb-false, leb-false, leb-true, eqb-true, eq-eqb, ne-eq
 use lib.Dec.{eqb, leb, ltb, lit≤}
 use lib.ListN.{length}
 use Rattle.format.specs.declared.Kind.{Kind}
-use Rattle.format.specs.declared.Kind.the-variants.{Bits, Native, Fixed, Bytes32, Bytes64, Views, Lists32, Lists64, Runs, Struct, Union, Dictionary, Unknown}
+use Rattle.format.specs.declared.Kind.the-variants.{Bits, Native, Fixed, Bytes32, Bytes64, Views, Lists32, Lists64, Runs, Struct, Union, Dictionary, Nested32, Nested64, Unknown}
 use Rattle.format.specs.Bytes.{anyBelow, negative, bytesFor}
 use Rattle.format.specs.Node.{nodeCount, tableStart, rootRows, places, hasNoBitmap, noBitmap, validityAt, firstAt, kindNumber, kindOf, kind, ofKind, param, rows, kids, secondAt, secondLength}
 use Rattle.format.specs.Node.{firstNumber, secondNumber, runEnd, runStart, valid, parent, depth, child, dataBuffer, Ancestor, ancestor, closed, oneLess, ancestors, innermost}
 use Rattle.format.specs.Verdict.{packLimit, wrongSize, wrongTable, wrongFields, wrongTree, wrongRows, wrongBuffers, wrongContent, wrongRoot, journalVerdict, maskVerdict}
 use Rattle.format.specs.Verdict.{badFields, layout, oneOf, notClosed, empty, badDataBuffer, badChildRows, badBuffers, firstSize, secondSize, badContent, badRuns, badOffsets, badView, badRange, viewField}
-use Rattle.format.specs.Accepted.{OneChild, Shares, Carries, Inner, shared, byRuns, carried, DataBuffer, Shape, Fields, InBody, Offsets, ViewLies, RunEnds, Sound, SoundMask}
+use Rattle.format.specs.Accepted.{OneChild, Shares, Carries, Nests, Inner, shared, byRuns, carried, bySpans, DataBuffer, Shape, Fields, InBody, Offsets, Spans, ViewLies, RunEnds, Sound, SoundMask}
 use Rattle.format.specs.Accepted as is
 use Rattle.format.proofs.Laws.{any-none, Accepted, accepted, accepted-mask, parent-before}
 
@@ -91,6 +91,8 @@ numberOf Runs = 9
 numberOf Struct = 10
 numberOf Union = 11
 numberOf Dictionary = 12
+numberOf Nested32 = 13
+numberOf Nested64 = 14
 numberOf Unknown = 0
 
 numbered : (n : ℕ) → (kindOf n ≡ Unknown → ⊥) → n ≡ numberOf (kindOf n)
@@ -108,7 +110,9 @@ numbered (suc (suc (suc (suc (suc (suc (suc (suc (suc zero))))))))) u = refl
 numbered (suc (suc (suc (suc (suc (suc (suc (suc (suc (suc zero)))))))))) u = refl
 numbered (suc (suc (suc (suc (suc (suc (suc (suc (suc (suc (suc zero))))))))))) u = refl
 numbered (suc (suc (suc (suc (suc (suc (suc (suc (suc (suc (suc (suc zero)))))))))))) u = refl
-numbered (suc (suc (suc (suc (suc (suc (suc (suc (suc (suc (suc (suc (suc n))))))))))))) u = absurd (u refl)
+numbered (suc (suc (suc (suc (suc (suc (suc (suc (suc (suc (suc (suc (suc zero))))))))))))) u = refl
+numbered (suc (suc (suc (suc (suc (suc (suc (suc (suc (suc (suc (suc (suc (suc zero)))))))))))))) u = refl
+numbered (suc (suc (suc (suc (suc (suc (suc (suc (suc (suc (suc (suc (suc (suc (suc n))))))))))))))) u = absurd (u refl)
 
 pub number-kind : (b : List ℕ) (i : ℕ) (k : Kind) → kind b i ≡ k → (k ≡ Unknown → ⊥) → kindNumber b i ≡ numberOf k
 unfolding kind
@@ -147,6 +151,8 @@ narrow-of Runs q e = bounded 1024 (2 ∷ 4 ∷ 8 ∷ []) q (lit≤ tt, (lit≤ t
 narrow-of Struct q e = let z : q ≡ 0 = eqb-true q 0 e in omega arith
 narrow-of Union q e = let z : q ≡ 0 = eqb-true q 0 e in omega arith
 narrow-of Dictionary q e = bounded 1024 (1 ∷ 2 ∷ 4 ∷ 8 ∷ []) q (lit≤ tt, (lit≤ tt, (lit≤ tt, (lit≤ tt, tt)))) e
+narrow-of Nested32 q e = let z : q ≡ 0 = eqb-true q 0 e in omega arith
+narrow-of Nested64 q e = let z : q ≡ 0 = eqb-true q 0 e in omega arith
 narrow-of Unknown q e = absurd (false≢true e)
 
 -- a kind that allows some children
@@ -166,6 +172,8 @@ inner-of Runs n u f h = byRuns refl
 inner-of Struct n u f h = shared is.Shares.struct
 inner-of Union n u f h = shared is.Shares.union
 inner-of Dictionary n u f h = carried is.Carries.dictionary
+inner-of Nested32 n u f h = bySpans 4 is.Nests.nested32
+inner-of Nested64 n u f h = bySpans 8 is.Nests.nested64
 inner-of Unknown n u f h = absurd (u refl)
 
 one-child : {k : Kind} → OneChild k → (n : ℕ) → layout k .children n ≡ true → n ≡ 1
@@ -173,6 +181,8 @@ one-child is.OneChild.lists32 n e = eqb-true n 1 e
 one-child is.OneChild.lists64 n e = eqb-true n 1 e
 one-child is.OneChild.runs n e = eqb-true n 1 e
 one-child is.OneChild.dictionary n e = eqb-true n 1 e
+one-child is.OneChild.nested32 n e = eqb-true n 1 e
+one-child is.OneChild.nested64 n e = eqb-true n 1 e
 
 -- The tree: every open node but the innermost has begun; the innermost has children to come, and has begun unless it stands right before
 
@@ -335,8 +345,8 @@ module _ (b : List ℕ) (a : Accepted b) where
     unfolding wrongContent
     content-right k e = rw e at (any-none (λ k. badContent (kind b k) b k) (nodeCount b) i h (a .content))
 
-    -- kinds 4 and 5: offsets of w bytes
-    module _ (w : ℕ) (bad : badOffsets w b i ≡ false) where
+    -- kinds 4, 5, 13 and 14: offsets of w bytes
+    module _ (w size : ℕ) (bad : badOffsets w size b i ≡ false) where
       offsets-rise : (r : ℕ) → r < rows b i → firstNumber w b i r ≤ firstNumber w b i (suc r)
       unfolding badOffsets
       offsets-rise r l =
@@ -345,23 +355,23 @@ module _ (b : List ℕ) (a : Accepted b) where
           (or-right (negative w (firstNumber w b i 0)) _ (or-left _ _ bad)) in
           ltb-false _ _ (or-right (negative w (firstNumber w b i (suc r))) _ f)
 
-      last-offset : firstNumber w b i (rows b i) ≤ secondLength b i
+      last-offset : firstNumber w b i (rows b i) ≤ size
       unfolding badOffsets
       last-offset =
           ltb-false _ _
           (or-right (negative w (firstNumber w b i 0) || anyBelow (λ r. negative w (firstNumber w b i (suc r)) || ltb (firstNumber w b i (suc r)) (firstNumber w b i r)) (rows b i)) _ bad)
 
-      offset-below : (d r : ℕ) → r + d ≡ rows b i → firstNumber w b i r ≤ secondLength b i
+      offset-below : (d r : ℕ) → r + d ≡ rows b i → firstNumber w b i r ≤ size
       offset-below zero r e = let q : r ≡ rows b i = omega arith in rw q last-offset
       offset-below (suc d) r e = omega (arith, offsets-rise r (omega arith), offset-below d (suc r) (omega arith))
 
     offsets32-are : kind b i ≡ Bytes32 → Offsets 4 b i
     unfolding badContent
     offsets32-are e =
-        let bad : badOffsets 4 b i ≡ false = content-right Bytes32 e in
+        let bad : badOffsets 4 (secondLength b i) b i ≡ false = content-right Bytes32 e in
         record {
-          rise = offsets-rise 4 bad;
-          inside = λ r l. offset-below 4 bad (rows b i - r) r (omega arith);
+          rise = offsets-rise 4 _ bad;
+          inside = λ r l. offset-below 4 _ bad (rows b i - r) r (omega arith);
           lie = rw e at first-inside;
           dataLies = rw e at second-inside;
         }
@@ -369,13 +379,33 @@ module _ (b : List ℕ) (a : Accepted b) where
     offsets64-are : kind b i ≡ Bytes64 → Offsets 8 b i
     unfolding badContent
     offsets64-are e =
-        let bad : badOffsets 8 b i ≡ false = content-right Bytes64 e in
+        let bad : badOffsets 8 (secondLength b i) b i ≡ false = content-right Bytes64 e in
         record {
-          rise = offsets-rise 8 bad;
-          inside = λ r l. offset-below 8 bad (rows b i - r) r (omega arith);
+          rise = offsets-rise 8 _ bad;
+          inside = λ r l. offset-below 8 _ bad (rows b i - r) r (omega arith);
           lie = rw e at first-inside;
           dataLies = rw e at second-inside;
         }
+
+    spans-are : (w : ℕ) → Nests w (kind b i) → Spans w b i
+    unfolding badContent
+    spans-are w s = go w (kind b i) refl s
+      where
+        go : (w : ℕ) (k : Kind) → kind b i ≡ k → Nests w k → Spans w b i
+        go w Nested32 e is.Nests.nested32 =
+            let bad : badOffsets 4 (rows b (child i)) b i ≡ false = content-right Nested32 e in
+            record {
+              rise = offsets-rise 4 _ bad;
+              inside = λ r l. offset-below 4 _ bad (rows b i - r) r (omega arith);
+              lie = rw e at first-inside;
+            }
+        go w Nested64 e is.Nests.nested64 =
+            let bad : badOffsets 8 (rows b (child i)) b i ≡ false = content-right Nested64 e in
+            record {
+              rise = offsets-rise 8 _ bad;
+              inside = λ r l. offset-below 8 _ bad (rows b i - r) r (omega arith);
+              lie = rw e at first-inside;
+            }
 
     -- kind 6
     view-lies : (r : ℕ) → kind b i ≡ Views → r < rows b i → ViewLies b i r
@@ -562,6 +592,7 @@ module _ (b : List ℕ) (a : Accepted b) where
         lists32 = λ i r h e l. lists32-lie i h r e l;
         lists64 = λ i r h e l. lists64-lie i h r e l;
         runEnds = run-ends;
+        spans = λ w i h s. spans-are i h w s;
         ids = λ i r h e l. ids-below i h r e l;
         keys = λ i r h e l v. keys-below i h r e l v;
       }

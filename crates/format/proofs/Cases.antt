@@ -37,7 +37,7 @@ pack body nodes rows = padded body ++ join (map (numbers 4) nodes) ++ numbers 4 
 unfoldable pub node : ℕ → ℕ → ℕ → ℕ → ℕ → ℕ → ℕ → List ℕ
 node kind param rows skip kids validity first = kind ∷ param ∷ rows ∷ skip ∷ kids ∷ validity ∷ first ∷ 0 ∷ 0 ∷ 0 ∷ []
 
--- a mask of n slots and no null; a column of numbers of 4 bytes; of texts, by their offsets; runs of such numbers
+-- a mask of n slots and no null; a column of numbers of 4 bytes; of texts, by their offsets; runs of such numbers; lists of them
 unfoldable pub maskOf : ℕ → ℕ → List ℕ
 maskOf n bits = pack (bits ∷ []) (node 1 0 n 0 0 noBitmap 0 ∷ []) n
 
@@ -53,6 +53,11 @@ runsOf : ℕ → ℕ → List ℕ → List ℕ → List ℕ
 runsOf rows skip ends values =
     pack (padded (numbers 4 ends) ++ numbers 4 values)
     (node 9 4 rows skip 1 noBitmap 0 ∷ node 2 4 (length values) 0 0 noBitmap (length (padded (numbers 4 ends))) ∷ []) rows
+
+listsOf : ℕ → List ℕ → List ℕ → List ℕ
+listsOf rows offsets values =
+    pack (padded (numbers 4 offsets) ++ numbers 4 values)
+    (node 13 0 rows 0 1 noBitmap 0 ∷ node 2 4 (length values) 0 0 noBitmap (length (padded (numbers 4 offsets))) ∷ []) rows
 
 -- a call; and one with no stated count and no list, two bytes of scratch and so many of output
 unfoldable pub call : List ℕ → List ℕ → Stated → Bool → List ℕ → List ℕ → List ℕ → Call
@@ -129,6 +134,18 @@ withNull = pack (0x07 ∷ 0x0D ∷ []) (node 1 0 4 0 0 1 0 ∷ []) 4
 nullInside : List ℕ
 nullInside = pack (padded (numbers 4 (1 ∷ 0 ∷ 3 ∷ [])) ++ (0x05 ∷ [])) (node 2 4 3 0 0 16 0 ∷ []) 3
 
+-- lists 10 11, null (with a child row under it), 13
+nullList : List ℕ
+nullList =
+    pack (padded (numbers 4 (0 ∷ 2 ∷ 3 ∷ 4 ∷ [])) ++ padded (numbers 4 (10 ∷ 11 ∷ 12 ∷ 13 ∷ [])) ++ (0x05 ∷ []))
+    (node 13 0 3 0 1 32 0 ∷ node 2 4 4 0 0 noBitmap 16 ∷ []) 3
+
+-- 10 11, null
+nullListKept : List ℕ
+nullListKept =
+    pack (padded (0x01 ∷ []) ++ padded (numbers 4 (0 ∷ 2 ∷ 2 ∷ [])) ++ numbers 4 (10 ∷ 11 ∷ []))
+    (node 13 0 2 0 1 0 8 ∷ node 2 4 2 0 0 noBitmap 24 ∷ []) 2
+
 -- P1 with the list asked for: 3 places, of which 2 are stored to
 listed : Call
 listed = call (maskOf 5 0x09) five (stated 2) true (4 ∷ 5 ∷ 6 ∷ []) [] (replicate 64 7)
@@ -161,6 +178,9 @@ bench =
     -- stored lists: row numbers; start and end of each run
     ∷ case (outcome listed) (ends (Done 2 5 Indices 64) p1 (0 ∷ 3 ∷ 6 ∷ []) [])
     ∷ case (outcome sliced) (ends (Done 5 6 Slices 80) (natives (2 ∷ 3 ∷ 4 ∷ 5 ∷ 6 ∷ [])) (1 ∷ 6 ∷ 9 ∷ []) [])
+    -- lists: the child rows of kept rows, with offsets from 0; under a null row none
+    ∷ keeps 2 3 Indices (maskOf 3 0x05) (listsOf 3 (1 ∷ 3 ∷ 4 ∷ 5 ∷ []) (9 ∷ 10 ∷ 11 ∷ 12 ∷ 13 ∷ 14 ∷ [])) (listsOf 2 (0 ∷ 2 ∷ 3 ∷ []) (10 ∷ 11 ∷ 13 ∷ [])) (0 ∷ 9 ∷ [])
+    ∷ keeps 2 3 Indices (maskOf 3 0x03) nullList nullListKept (0 ∷ 9 ∷ [])
     -- offsets are rebuilt from 0, not from the source's first
     ∷ keeps 2 3 Indices (maskOf 3 0x05) (texts 3 (1 ∷ 3 ∷ 3 ∷ 6 ∷ []) (0x78 ∷ abcde)) (texts 2 (0 ∷ 2 ∷ 5 ∷ []) abcde) untouched
     ∷ []
@@ -175,12 +195,14 @@ refusals =
     ∷ refusal 6 Journal (plain 99 (maskOf 5 9) (pack [] (node 2 4 1_048_577 0 0 noBitmap 0 ∷ []) 1_048_577))
     ∷ refusal 7 Journal (plain 99 (maskOf 3 5) (pack (replicate 8 0) (node 2 4 3 0 0 noBitmap 0 ∷ []) 3))
     ∷ refusal 8 Journal (plain 99 (maskOf 2 1) (texts 2 (0 ∷ 3 ∷ 2 ∷ []) abcde))
+    ∷ refusal 8 Journal (plain 99 (maskOf 2 1) (listsOf 2 (0 ∷ 1 ∷ 3 ∷ []) (7 ∷ 8 ∷ [])))
     ∷ refusal 9 Mask (plain 99 five five)
     ∷ refusal 10 Journal (plain 99 (maskOf 6 9) five)
     ∷ refusal 11 Mask (call withNull [] (stated 3) false [] [] [])
     ∷ refusal 12 Journal (call (maskOf 5 0x0B) five unstated true (4 ∷ 5 ∷ []) [] [])
     ∷ refusal 13 Journal
     (call (maskOf 5 9) (runsOf 9 0 (1 ∷ 2 ∷ 3 ∷ 4 ∷ 5 ∷ 6 ∷ 7 ∷ 8 ∷ 9 ∷ []) (replicate 9 1)) unstated false [] (9 ∷ []) [])
+    ∷ refusal 13 Journal (call (maskOf 1 1) (listsOf 1 (0 ∷ 9 ∷ []) (replicate 9 1)) unstated false [] (9 ∷ []) [])
     ∷ refusal 14 Journal (plain 63 (maskOf 5 9) five)
     ∷ []
 
@@ -204,22 +226,22 @@ same-is t h (x ∷ xs) (y ∷ ys) e =
     ap₂ _∷_ (h x y (both .0)) (same-is t h xs ys (both .1))
 
 test : same (same (same eqb)) (map (λ (c : Case). c .found) cases) (map (λ (c : Case). c .expected) cases) ≡ true
-unfolding Bytes.opened Words.opened Node.opened Verdict.opened Masks.opened Kept.opened Write.opened Refusals.opened Answers.opened pack node maskOf natives texts runsOf call plain outcome case refusal keeps untouched five p1 withNull nullInside abcde listed sliced bench refusals cases routeNumber packNumber inNumbers same
+unfolding Bytes.opened Words.opened Node.opened Verdict.opened Masks.opened Kept.opened Write.opened Refusals.opened Answers.opened pack node maskOf natives texts runsOf listsOf call plain outcome case refusal keeps untouched five p1 withNull nullInside nullList nullListKept abcde listed sliced bench refusals cases routeNumber packNumber inNumbers same
 test = refl
 
 -- the one statement
 all-cases : map (λ (c : Case). c .found) cases ≡ map (λ (c : Case). c .expected) cases
 all-cases = same-is (same (same eqb)) (same-is (same eqb) (same-is eqb eqb-true)) _ _ test
 
--- demand 3's premises hold of two calls that differ in all that must not show. The journals are a struct of five columns: native,
--- texts, runs, a dictionary, bits; rows 0 and 3 are kept
+-- demand 3's premises hold of two calls that differ in all that must not show. The journals are a struct of six columns: native,
+-- texts, runs, a dictionary, bits, lists; rows 0 and 3 are kept
 unfoldable pub pieces : List (List ℕ) → List ℕ
 pieces ps = join (map padded ps)
 
 unfoldable pub place : ℕ → List (List ℕ) → ℕ
 place k ps = length (pieces (take k ps))
 
--- five rows, no skip, no bitmap, every byte used
+-- five rows, no skip, no bitmap but that of the lists, whose row 3 is null, every byte used
 unfoldable pub tight : List (List ℕ)
 tight =
     numbers 4 (5 ∷ 6 ∷ 7 ∷ 8 ∷ 9 ∷ [])
@@ -230,12 +252,15 @@ tight =
     ∷ (1 ∷ 0 ∷ 0 ∷ 0 ∷ 1 ∷ [])
     ∷ numbers 2 (100 ∷ 200 ∷ [])
     ∷ (0x09 ∷ [])
+    ∷ (0x17 ∷ [])
+    ∷ numbers 4 (0 ∷ 2 ∷ 3 ∷ 3 ∷ 3 ∷ 4 ∷ [])
+    ∷ numbers 2 (40 ∷ 41 ∷ 42 ∷ 43 ∷ [])
     ∷ []
 
 unfoldable pub tightJournal : List ℕ
 tightJournal =
     pack (pieces tight)
-    (node 10 0 5 0 5 noBitmap 0
+    (node 10 0 5 0 6 noBitmap 0
     ∷ node 2 4 5 0 0 noBitmap (place 0 tight)
     ∷ (4 ∷ 0 ∷ 5 ∷ 0 ∷ 0 ∷ noBitmap ∷ place 1 tight ∷ place 2 tight ∷ 5 ∷ 0 ∷ [])
     ∷ node 9 4 5 0 1 noBitmap (place 3 tight)
@@ -243,11 +268,14 @@ tightJournal =
     ∷ node 12 1 5 0 1 noBitmap (place 5 tight)
     ∷ node 2 2 2 0 0 noBitmap (place 6 tight)
     ∷ node 1 0 5 0 0 noBitmap (place 7 tight)
+    ∷ node 13 0 5 0 1 (place 8 tight) (place 9 tight)
+    ∷ node 2 2 4 0 0 noBitmap (place 10 tight)
     ∷ [])
     5
 
 -- six rows, a skip in every node but the keys', bitmaps in which no kept row is null, other values, texts, runs and keys in the dropped
--- rows, text bytes and a run that no kept row has, keys of null rows past the dictionary, spare bits set, buffers in another order
+-- rows, text bytes, a run and list rows that no kept row has, list rows under the null list, keys of null rows past the dictionary, spare bits
+-- set, buffers in another order
 unfoldable pub loose : List (List ℕ)
 loose =
     (0xAA ∷ 0xAA ∷ 0xAA ∷ [])
@@ -263,12 +291,15 @@ loose =
     ∷ (0x24 ∷ [])
     ∷ numbers 4 (44 ∷ 45 ∷ 5 ∷ 46 ∷ 47 ∷ 8 ∷ 48 ∷ 49 ∷ [])
     ∷ (0x90 ∷ 0xFC ∷ [])
+    ∷ numbers 2 (60 ∷ 61 ∷ 40 ∷ 41 ∷ 62 ∷ 63 ∷ 64 ∷ 65 ∷ [])
+    ∷ numbers 4 (77 ∷ 1 ∷ 3 ∷ 4 ∷ 4 ∷ 6 ∷ 6 ∷ 7 ∷ [])
+    ∷ (0xEB ∷ [])
     ∷ []
 
 unfoldable pub looseJournal : List ℕ
 looseJournal =
     pack (pieces loose)
-    (node 10 0 6 4 5 (place 12 loose) 0
+    (node 10 0 6 4 6 (place 12 loose) 0
     ∷ node 2 4 6 2 0 (place 10 loose) (place 11 loose)
     ∷ (4 ∷ 0 ∷ 6 ∷ 1 ∷ 0 ∷ noBitmap ∷ place 9 loose ∷ place 8 loose ∷ 10 ∷ 0 ∷ [])
     ∷ node 9 4 6 1 1 noBitmap (place 7 loose)
@@ -276,16 +307,18 @@ looseJournal =
     ∷ node 12 1 6 0 1 (place 5 loose) (place 4 loose)
     ∷ node 2 2 2 1 0 (place 3 loose) (place 2 loose)
     ∷ node 1 0 6 3 0 noBitmap (place 1 loose)
+    ∷ node 13 0 6 1 1 (place 15 loose) (place 14 loose)
+    ∷ node 2 2 7 1 0 noBitmap (place 13 loose)
     ∷ [])
     6
 
 -- room for the whole extract of either, and eight bytes more
 unfoldable pub one-way : Call
-one-way = call (maskOf 5 0x09) tightJournal unstated false [] (9 ∷ []) (replicate 416 7)
+one-way = call (maskOf 5 0x09) tightJournal unstated false [] (9 ∷ 9 ∷ []) (replicate 528 7)
 
 -- another mask too: a skip, true bits that are null, spare bits set; the list asked for; more scratch
 unfoldable pub other-way : Call
-other-way = call (pack (0x7F ∷ 0xD2 ∷ []) (node 1 0 5 1 0 1 0 ∷ []) 5) looseJournal unstated true (1 ∷ 2 ∷ 3 ∷ []) (8 ∷ 8 ∷ []) (replicate 416 7)
+other-way = call (pack (0x7F ∷ 0xD2 ∷ []) (node 1 0 5 1 0 1 0 ∷ []) 5) looseJournal unstated true (1 ∷ 2 ∷ 3 ∷ []) (8 ∷ 8 ∷ 8 ∷ []) (replicate 528 7)
 
 pub premises-hold : Alike one-way other-way
 unfolding Bytes.opened Node.opened Verdict.opened Masks.opened Kept.opened Write.opened Refusals.opened Answers.opened pack node maskOf call abcde pieces place tight tightJournal loose looseJournal one-way other-way
@@ -309,7 +342,7 @@ premises-hold =
       sameStated = refl;
     }
 
--- and neither call is refused: both give an extract of 408 bytes
-pub premises-succeed : answer one-way ≡ Done 2 5 Indices 408
+-- and neither call is refused: both give an extract of 520 bytes
+pub premises-succeed : answer one-way ≡ Done 2 5 Indices 520
 unfolding Bytes.opened Node.opened Verdict.opened Masks.opened Kept.opened Write.opened Refusals.opened Answers.opened pack node maskOf call abcde pieces place tight tightJournal one-way
 premises-succeed = refl

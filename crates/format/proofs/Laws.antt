@@ -96,8 +96,8 @@ pub length-over : (new old : List ℕ) → length new ≤ length old → length 
 unfolding over
 length-over new old h = simp (length-append, length-drop) (omega arith)
 
--- a number above 12 is no kind
-pub unknown-above : (n : ℕ) → 12 < n → kindOf n ≡ Unknown
+-- a number above 14 is no kind
+pub unknown-above : (n : ℕ) → 14 < n → kindOf n ≡ Unknown
 unfolding kindOf
 unknown-above n h = List·getD-eq-default kinds Unknown {n = n} h
 

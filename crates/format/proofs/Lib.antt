@@ -7,6 +7,7 @@ pub mod Threshold
 pub mod Numbers
 pub mod PackedLaws
 pub mod RowLaws
+pub mod SpanLaws
 pub mod Measure
 pub mod Accepted
 pub mod Refusals

@@ -6,18 +6,20 @@ use mathlib.Core.List.{List, [], _∷_}
 use mathlib.Core.Path.{_≡_}
 use lib.ListN.{length}
 use Rattle.format.specs.declared.Kind.{Kind}
-use Rattle.format.specs.declared.Kind.the-variants.{Bits, Native, Bytes32, Bytes64, Views, Lists32, Lists64, Runs, Struct, Union, Dictionary, Unknown}
+use Rattle.format.specs.declared.Kind.the-variants.{Bits, Native, Bytes32, Bytes64, Views, Lists32, Lists64, Runs, Struct, Union, Dictionary, Nested32, Nested64, Unknown}
 use Rattle.format.specs.Bytes.{bytesFor}
 use Rattle.format.specs.Node.{tableStart, nodeCount, rootRows, param, rows, kids, validityAt, noBitmap, firstAt, secondAt, secondLength}
 use Rattle.format.specs.Node.{kind, places, hasNoBitmap, valid, firstNumber, secondNumber, runEnd, runStart, parent, depth, child, dataBuffer}
 use Rattle.format.specs.Verdict.{packLimit, oneOf, layout, firstSize, secondSize, viewField}
 
--- the kinds that have one child: list views, runs, dictionary
+-- the kinds that have one child: list views, runs, dictionary, lists
 pub data OneChild : Kind → Type 0 where
   lists32 : OneChild Lists32
   lists64 : OneChild Lists64
   runs : OneChild Runs
   dictionary : OneChild Dictionary
+  nested32 : OneChild Nested32
+  nested64 : OneChild Nested64
 
 -- the kinds whose children have their parent's rows
 pub data Shares : Kind → Type 0 where
@@ -31,11 +33,17 @@ pub data Carries : Kind → Type 0 where
   lists64 : Carries Lists64
   dictionary : Carries Dictionary
 
--- what a node with children hands on: its own rows, its runs, or all rows of the child
+-- the lists, with the width of their offsets
+pub data Nests : ℕ → Kind → Type 0 where
+  nested32 : Nests 4 Nested32
+  nested64 : Nests 8 Nested64
+
+-- what a node with children hands on: its own rows, its runs, all rows of the child, or the child rows of its valid rows
 pub data Inner (k : Kind) : Type 0 where
   shared : Shares k → Inner k
   byRuns : k ≡ Runs → Inner k
   carried : Carries k → Inner k
+  bySpans : (w : ℕ) → Nests w k → Inner k
 
 -- data buffer k of views node i is the node i + 1 + k: native of width 1, with no bitmap
 pub record DataBuffer (b : List ℕ) (i k : ℕ) : Type 0 where
@@ -86,6 +94,12 @@ pub record Offsets (w : ℕ) (b : List ℕ) (i : ℕ) : Type 0 where
   pub lie : firstAt b i + w * suc (places b i) ≤ tableStart b
   pub dataLies : secondAt b i + secondLength b i ≤ tableStart b
 
+-- offsets of w bytes of a list (8; kinds 13 and 14): they never fall and stay within the child's rows
+pub record Spans (w : ℕ) (b : List ℕ) (i : ℕ) : Type 0 where
+  pub rise : (r : ℕ) → r < rows b i → firstNumber w b i r ≤ firstNumber w b i (suc r)
+  pub inside : (r : ℕ) → r ≤ rows b i → firstNumber w b i r ≤ rows b (child i)
+  pub lie : firstAt b i + w * suc (places b i) ≤ tableStart b
+
 -- views (8): above 12 bytes the range lies in the child that the view names
 pub record ViewLies (b : List ℕ) (i r : ℕ) : Type 0 where
   pub short : viewField 0 b i r < 2 ^ 31
@@ -113,6 +127,7 @@ pub record Sound (b : List ℕ) : Type 0 where
   pub lists64 : (i r : ℕ) → i < nodeCount b → kind b i ≡ Lists64 → r < rows b i → firstNumber 8 b i r + secondNumber 8 b i r ≤ rows b (child i)
   pub runEnds : (i : ℕ) → i < nodeCount b → kind b i ≡ Runs → RunEnds b i
   pub ids : (i r : ℕ) → i < nodeCount b → kind b i ≡ Union → r < rows b i → firstNumber 1 b i r < kids b i
+  pub spans : (w i : ℕ) → i < nodeCount b → Nests w (kind b i) → Spans w b i
   pub keys : (i r : ℕ) → i < nodeCount b → kind b i ≡ Dictionary → r < rows b i → valid b i r ≡ true → firstNumber (param b i) b i r < rows b (child i)
 
 -- and for a mask: its root is of kind bits, whose bits and bitmap lie in the body

@@ -41,9 +41,13 @@ abbrev pub callOf : List ℕ → List ℕ → Stated → Bool → List ℕ → L
 callOf m j count asked list scratch output =
     record { mask = m; journal = j; states = count; asked = asked; list = list; scratch = scratch; output = output }
 
--- the scratch needed: for each runs node, child rows / 8 rounded up, summed
+-- node i is a runs node or a list: which rows of its child are kept, the scratch says by a bit for each
+unfoldable pub takesScratch : List ℕ → ℕ → Bool
+takesScratch b i = ofKind 9 b i || ofKind 13 b i || ofKind 14 b i
+
+-- the scratch needed: for each such node, child rows / 8 rounded up, summed
 unfoldable pub scratchNeeded : List ℕ → ℕ
-scratchNeeded b = sumBelow (λ i. cond (ofKind 9 b i) (bytesFor (rows b (child i))) 0) (nodeCount b)
+scratchNeeded b = sumBelow (λ i. cond (takesScratch b i) (bytesFor (rows b (child i))) 0) (nodeCount b)
 
 -- 10: mask longer than journal
 unfoldable pub tooLong : Call → Bool
@@ -137,5 +141,5 @@ pub record Prepares (c : Call) (r : Prepared) (list : List ℕ) : Type 0 where
 
 -- to unfold `opened` is to unfold all of this module
 unfoldable pub opened : Unit {0}
-unfolding scratchNeeded tooLong wrongCount listShort scratchShort extractOf outputShort refusalOf answerAt answer outputAfter stores listAfter scratchAfter maskRefusal preparedAt prepared preparedList
+unfolding takesScratch scratchNeeded tooLong wrongCount listShort scratchShort extractOf outputShort refusalOf answerAt answer outputAfter stores listAfter scratchAfter maskRefusal preparedAt prepared preparedList
 opened = tt

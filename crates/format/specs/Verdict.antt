@@ -5,7 +5,7 @@ use mathlib.Core.List.{List, [], _∷_, _++_}
 use lib.Dec.{eqb, leb, ltb}
 use lib.ListN.{length}
 use Rattle.format.specs.declared.Kind.{Kind}
-use Rattle.format.specs.declared.Kind.the-variants.{Bits, Native, Fixed, Bytes32, Bytes64, Views, Lists32, Lists64, Runs, Struct, Union, Dictionary, Unknown}
+use Rattle.format.specs.declared.Kind.the-variants.{Bits, Native, Fixed, Bytes32, Bytes64, Views, Lists32, Lists64, Runs, Struct, Union, Dictionary, Nested32, Nested64, Unknown}
 use Rattle.format.specs.Bytes.{le, anyBelow, negative, bytesFor}
 use Rattle.format.specs.Node.{tableStart, nodeCount, rootRows, markOf, mark, param, rows, skip, kids, validityAt, firstAt, secondAt}
 use Rattle.format.specs.Node.{secondLength, lastField}
@@ -73,6 +73,8 @@ layout Runs = row (oneOf (2 ∷ 4 ∷ 8 ∷ [])) (only 1) false true false false
 layout Struct = row (only 0) any true false false false
 layout Union = row (only 0) any false true false false
 layout Dictionary = row (oneOf (1 ∷ 2 ∷ 4 ∷ 8 ∷ [])) (only 1) true true false false
+layout Nested32 = row (only 0) (only 1) true true false false
+layout Nested64 = row (only 0) (only 1) true true false false
 layout Unknown = row (oneOf []) any true true true true
 
 -- an unused field is 0
@@ -131,6 +133,8 @@ firstSize Runs p n c = p * c
 firstSize Struct p n c = 0
 firstSize Union p n c = n
 firstSize Dictionary p n c = p * n
+firstSize Nested32 p n c = 4 * suc n
+firstSize Nested64 p n c = 8 * suc n
 firstSize Unknown p n c = 0
 
 abbrev pub secondSize : Kind → ℕ → ℕ → ℕ
@@ -146,6 +150,8 @@ secondSize Runs n l = 0
 secondSize Struct n l = 0
 secondSize Union n l = 0
 secondSize Dictionary n l = 0
+secondSize Nested32 n l = 0
+secondSize Nested64 n l = 0
 secondSize Unknown n l = 0
 
 -- 7: a buffer leaves the body, which ends where the table starts (an unused one has place 0 and no bytes)
@@ -158,12 +164,12 @@ badBuffers b i =
 unfoldable pub wrongBuffers : List ℕ → Bool
 wrongBuffers b = anyNode b (badBuffers b)
 
--- offsets of w bytes start at 0 or more, never fall, end within the data
-unfoldable pub badOffsets : ℕ → List ℕ → ℕ → Bool
-badOffsets w b i =
+-- offsets of w bytes start at 0 or more, never fall, end within the data: so many bytes, or rows of the child
+unfoldable pub badOffsets : ℕ → ℕ → List ℕ → ℕ → Bool
+badOffsets w size b i =
     negative w (firstNumber w b i 0)
     || anyBelow (λ r. negative w (firstNumber w b i (suc r)) || ltb (firstNumber w b i (suc r)) (firstNumber w b i r)) (rows b i)
-    || ltb (secondLength b i) (firstNumber w b i (rows b i))
+    || ltb size (firstNumber w b i (rows b i))
 
 -- field k of view r, 4 bytes each: length, prefix, buffer number, offset
 unfoldable pub viewField : ℕ → List ℕ → ℕ → ℕ → ℕ
@@ -195,8 +201,8 @@ unfoldable pub badContent : Kind → List ℕ → ℕ → Bool
 badContent Bits b i = false
 badContent Native b i = false
 badContent Fixed b i = false
-badContent Bytes32 b i = badOffsets 4 b i
-badContent Bytes64 b i = badOffsets 8 b i
+badContent Bytes32 b i = badOffsets 4 (secondLength b i) b i
+badContent Bytes64 b i = badOffsets 8 (secondLength b i) b i
 badContent Views b i = anyBelow (badView b i) (rows b i)
 badContent Lists32 b i = anyBelow (badRange 4 b i) (rows b i)
 badContent Lists64 b i = anyBelow (badRange 8 b i) (rows b i)
@@ -204,6 +210,8 @@ badContent Runs b i = badRuns b i
 badContent Struct b i = false
 badContent Union b i = anyBelow (λ r. leb (kids b i) (firstNumber 1 b i r)) (rows b i)
 badContent Dictionary b i = anyBelow (λ r. valid b i r && leb (rows b (child i)) (firstNumber (param b i) b i r)) (rows b i)
+badContent Nested32 b i = badOffsets 4 (rows b (child i)) b i
+badContent Nested64 b i = badOffsets 8 (rows b (child i)) b i
 badContent Unknown b i = false
 
 unfoldable pub wrongContent : List ℕ → Bool

@@ -4,7 +4,8 @@ ghost use Prim.Native.Nat.{_≤_};
 ghost use Rattle.format.specs.Mask.{routeOf, routeNumber};
 ghost use Rattle.format.specs.Verdict.{rowLimit};
 
-// A node's kind, with the width in bits of offsets where there are two. Unknown is every number that is no kind.
+// A node's kind, with the width in bits of offsets where there are two. Lists32 and Lists64 are list views, Nested32 and Nested64 lists whose
+// child rows follow one another. Unknown is every number that is no kind.
 pub enum Kind {
     Bits,
     Native,
@@ -18,6 +19,8 @@ pub enum Kind {
     Struct,
     Union,
     Dictionary,
+    Nested32,
+    Nested64,
     Unknown,
 }
 

@@ -6,7 +6,7 @@ use native.Mathlib.Omega.{arith}
 use lib.ListN.{length, getD}
 use Rattle.format.specs.Bytes.{join}
 use Rattle.format.specs.declared.Kind.{Kind}
-use Rattle.format.specs.declared.Kind.the-variants.{Bits, Native, Fixed, Bytes32, Bytes64, Views, Lists32, Lists64, Runs, Struct, Union, Dictionary, Unknown}
+use Rattle.format.specs.declared.Kind.the-variants.{Bits, Native, Fixed, Bytes32, Bytes64, Views, Lists32, Lists64, Runs, Struct, Union, Dictionary, Nested32, Nested64, Unknown}
 use Rattle.format.specs.Node.{nodeCount, kindNumber, kind, secondLength}
 use Rattle.format.specs.Kept.{cells, ownBytes}
 use Rattle.format.specs.Write.{dataLength}
@@ -38,6 +38,8 @@ module _ (b : List ℕ) (i : ℕ) (rs : List ℕ) where
   no-data Struct f g = refl
   no-data Union f g = refl
   no-data Dictionary f g = refl
+  no-data Nested32 f g = refl
+  no-data Nested64 f g = refl
   no-data Unknown f g = refl
 
 -- the same by the node's kind, as the array has it

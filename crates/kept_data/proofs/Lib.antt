@@ -2,5 +2,5 @@
 pub mod Nulls
 pub mod Texts
 pub mod DataBytes
-pub mod Spanned
+pub mod TextSpans
 pub mod Rooted

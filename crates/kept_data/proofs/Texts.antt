@@ -1,5 +1,5 @@
 -- Data bytes of a node's kept rows, row by row, and where their offsets stand. Assumes nothing.
-use Prim.Native.Nat.{ℕ, suc, _+_, _-_, _*_, _≤_, _<_}
+use Prim.Native.Nat.{ℕ, zero, suc, _+_, _-_, _*_, _≤_, _<_}
 use mathlib.Core.Bool.{Bool, true, false, cond}
 use mathlib.Core.List.{List, [], _∷_, map, map-append, append-nil}
 use mathlib.Core.Path.{_≡_, refl, sym, ap, _∙_}
@@ -8,32 +8,17 @@ use native.Mathlib.Nat.{add-zero, mul-add, mul-suc, mul-le-mul-left}
 use native.Mathlib.Omega.{arith}
 use lib.ListN.{length, getD, length-append, length-take, length-drop}
 use Rattle.format.specs.Bytes.{chosen, join, bytesAt, le}
+use Rattle.format.specs.Slots.{All}
 use Rattle.format.specs.Node.{nodeCount, rows, skip, places, firstAt, secondLength, firstNumber}
 use Rattle.format.specs.Verdict.{packLimit}
 use Rattle.format.specs.Kept.{ownBytes}
 use Rattle.format.specs.Accepted.{Sound, Offsets}
 use Rattle.format.proofs.Laws.{join-append}
-use Rattle.nesting.specs.Rows.{Ready}
+use Rattle.nesting.specs.Rows.{Ready, keeps}
+use Rattle.stretches.specs.Stretches.{Alike}
+use Rattle.stretches.proofs.Spanned.{bytes-spanned}
 use Rattle.nesting.proofs.ByKind.{first-at}
 use Rattle.nesting.proofs.Sieve.{skip-is}
-
--- how many bytes f gives for the chosen numbers
-module _ (p : ℕ → Bool) (f : ℕ → List ℕ) where
-  pub bytes-none : 0 ≡ length (join (map f (chosen p 0)))
-  unfolding chosen join
-  bytes-none = refl
-
-  bytes-more : (r : ℕ) → length (join (map f (chosen p (r + 1)))) ≡ length (join (map f (chosen p r))) + length (join (map f (cond (p r) (r ∷ []) [])))
-  unfolding chosen
-  bytes-more r = rw (add-one r, map-append, join-append (map f (chosen p r)), length-append (join (map f (chosen p r))))
-
-  pub bytes-kept : (r : ℕ) {n k : ℕ} → n ≡ length (join (map f (chosen p r))) → p r ≡ true → k ≡ length (f r) → n + k ≡ length (join (map f (chosen p (r + 1))))
-  unfolding join
-  bytes-kept r e h g = rw (bytes-more r, h, e, g, append-nil (f r))
-
-  pub bytes-dropped : (r : ℕ) {n : ℕ} → n ≡ length (join (map f (chosen p r))) → p r ≡ false → n ≡ length (join (map f (chosen p (r + 1))))
-  unfolding join
-  bytes-dropped r e h = rw (bytes-more r, h, e) (sym (add-zero (length (join (map f (chosen p r))))))
 
 -- a row's own bytes are as many as its offsets say
 pub own-length : {b : List ℕ} {i w : ℕ} → Sound b → Offsets w b i → (r : ℕ) → r < rows b i → length (ownBytes w b i r) ≡ firstNumber w b i (r + 1) - firstNumber w b i r
@@ -66,11 +51,26 @@ module _ {b root table parents counts : List ℕ} {node : ℕ} (ready : Ready b 
   pub offset-rises : (r : ℕ) → r < rows b node → firstNumber w b node r ≤ firstNumber w b node (r + 1)
   offset-rises r l = rw (add-one r) (o .rise r l)
 
+  pub offset-climbs : (r e : ℕ) → r ≤ e → e ≤ rows b node → firstNumber w b node r ≤ firstNumber w b node e
+  offset-climbs r e f l = go (e - r) e (omega arith) l
+    where
+      go : (d e : ℕ) → e ≡ r + d → e ≤ rows b node → firstNumber w b node r ≤ firstNumber w b node e
+      go zero e k l = let z : e ≡ r = omega arith in rw z (omega arith)
+      go (suc d) e k l = let z : e ≡ r + d + 1 = omega arith in rw z (omega (arith, go d (r + d) refl (omega arith), offset-rises (r + d) (omega arith)))
+
   pub offset-inside : (r : ℕ) → r ≤ rows b node → firstNumber w b node r ≤ secondLength b node
   offset-inside r l = o .inside r l
 
   pub offset-small : (r : ℕ) → r ≤ rows b node → firstNumber w b node r ≤ packLimit
   offset-small r l = omega (arith, o .inside r l, o .dataLies, ready .sound .shape .table, ready .sound .shape .small)
 
-  pub text-length : (r : ℕ) → r < rows b node → {x y : ℕ} → x ≡ firstNumber w b node (r + 1) → y ≡ firstNumber w b node r → x - y ≡ length (ownBytes w b node r)
-  text-length r l ex ey = rw (ex, ey) (sym (own-length (ready .sound) o r l))
+  -- the bytes of a stretch of kept rows
+  module _ {r e n x y : ℕ} (ex : x ≡ firstNumber w b node e) (ey : y ≡ firstNumber w b node r) (q : n ≡ length (join (map (ownBytes w b node) (chosen (keeps b root node) r)))) (a : Alike (keeps b root node) r (rows b node) true e) where
+    spanned : (firstNumber w b node r ≤ firstNumber w b node e) × (n + (firstNumber w b node e - firstNumber w b node r) ≡ length (join (map (ownBytes w b node) (chosen (keeps b root node) e))))
+    spanned = bytes-spanned (keeps b root node) (ownBytes w b node) (firstNumber w b node) offset-rises (λ k l. sym (own-length (ready .sound) o k l)) q a
+
+    pub stretch-rises : y ≤ x
+    stretch-rises = omega (arith, spanned .0)
+
+    pub stretch-bytes : n + (x - y) ≡ length (join (map (ownBytes w b node) (chosen (keeps b root node) e)))
+    stretch-bytes = rw (ex, ey) (spanned .1)

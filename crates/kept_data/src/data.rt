@@ -14,21 +14,20 @@ ghost use Rattle.slots.specs.Source.{Lies};
 ghost use Rattle.nesting.specs.Rows.{picksOf, Ready};
 use crate::root::bytes_at_root;
 use crate::root::null_at_root;
-use nesting::rows::keeps;
+use nesting::table::NO_BITMAP;
 use nesting::table::number;
 use nesting::top::at_root;
 use slots::Bits;
-
-// Validity at this place: no bitmap.
-const NO_BITMAP: u32 = 0xFFFF_FFFF;
+use stretches::told::none_told;
+use stretches::told::told;
 
 // Kinds by number: bytes with offsets of 32 and of 64 bits.
 const BYTES32: u32 = 4;
 
 const BYTES64: u32 = 5;
 
-// Some kept row of a node with a bitmap is null, row by row.
-fn null_by_rows(
+// Some kept row of a node with a bitmap is null: of each null row it is asked whether it is kept.
+fn null_by_stretches(
     mask: &[u8],
     bits: Bits,
     journal: &[u8],
@@ -44,6 +43,7 @@ fn null_by_rows(
 {
     let len = table[10 * node + 2] as usize;
     let first = 8 * (table[10 * node + 5] as usize) + table[10 * node + 3] as usize;
+    let mut seen = none_told();
     let mut r: usize = 0;
     while r < len {
         let row = r;
@@ -51,7 +51,18 @@ fn null_by_rows(
         if slots::bit(journal, first + row) {
             continue;
         }
-        if keeps(mask, bits, journal, table, parents, counts, node, row) {
+        let s = told(
+            mask,
+            bits,
+            journal,
+            table,
+            parents,
+            counts,
+            &mut seen,
+            node,
+            row,
+        );
+        if s.kept {
             return true;
         }
     }
@@ -81,11 +92,11 @@ pub fn any_null(
         let first = 8 * (at as usize) + table[10 * node + 3] as usize;
         return null_at_root(mask, bits, journal, first);
     }
-    null_by_rows(mask, bits, journal, table, parents, counts, node)
+    null_by_stretches(mask, bits, journal, table, parents, counts, node)
 }
 
-// How many data bytes the kept rows of a node with offsets of w bytes have, row by row.
-fn bytes_by_rows(
+// How many data bytes the kept rows of a node with offsets of w bytes have, stretch by stretch.
+fn bytes_by_stretches(
     mask: &[u8],
     bits: Bits,
     journal: &[u8],
@@ -103,12 +114,24 @@ fn bytes_by_rows(
 {
     let len = table[10 * node + 2] as usize;
     let first = table[10 * node + 6] as usize + w * (table[10 * node + 3] as usize);
+    let mut seen = none_told();
     let mut n: usize = 0;
     let mut r: usize = 0;
     while r < len {
         let row = r;
-        r += 1;
-        if keeps(mask, bits, journal, table, parents, counts, node, row) {
+        let s = told(
+            mask,
+            bits,
+            journal,
+            table,
+            parents,
+            counts,
+            &mut seen,
+            node,
+            row,
+        );
+        r = s.end;
+        if s.kept {
             n += number(journal, first + w * r, w) - number(journal, first + w * row, w);
         }
     }
@@ -135,7 +158,7 @@ fn text_bytes(
     if at_root(journal, table, parents, node) {
         return bytes_at_root(mask, bits, journal, table, parents, counts, node, w);
     }
-    bytes_by_rows(mask, bits, journal, table, parents, counts, node, w)
+    bytes_by_stretches(mask, bits, journal, table, parents, counts, node, w)
 }
 
 // How many data bytes the node's kept rows have.

@@ -6,15 +6,13 @@ ghost use Prim.Native.Nat.{_+_, _^_, _≤_, _<_};
 ghost use lib.ListN.{length};
 ghost use Rattle.format.specs.Bytes.{anyBelow, bitIn, join};
 ghost use Rattle.format.specs.Node.{nodeCount, rows, secondLength};
-ghost use Rattle.format.specs.Rows.{setRows};
 ghost use Rattle.format.specs.Verdict.{oneOf};
 ghost use Rattle.format.specs.Kept.{ownBytes};
 ghost use Rattle.format.specs.Accepted.{Offsets};
 ghost use Rattle.slots.specs.Source.{Lies, slotOf};
 ghost use Rattle.nesting.specs.Rows.{picksOf, Ready};
-ghost use Rattle.kept_data.specs.Spans.{offsetFrom, spans, Rising};
-use nesting::table::number;
 use slots::Bits;
+use spans::word_spans;
 
 // Some picked slot has no validity bit among those from bit `first` on: a word at a time.
 pub fn null_at_root(mask: &[u8], bits: Bits, journal: &[u8], first: usize) -> bool
@@ -37,25 +35,6 @@ pub fn null_at_root(mask: &[u8], bits: Bits, journal: &[u8], first: usize) -> bo
         }
     }
     false
-}
-
-// How many data bytes the rows base + k for the set bits k of a word have, by offsets of w bytes from `first` on: run by run.
-fn word_bytes(journal: &[u8], first: usize, w: usize, base: usize, word: u64) -> usize
-    requires { ⌜ oneOf (2 ∷ 4 ∷ 8 ∷ []) w ≡ true ⌝ }
-    requires { ⌜ Rising w (now journal) first (setRows base word) ⌝ }
-    requires { ⌜ spans (offsetFrom w (now journal) first) (setRows base word) < 2 ^ 64 ⌝ }
-    ensures { λ n. ⌜ n ≡ spans (offsetFrom w (now (journal .entry)) first) (setRows base word) ⌝ }
-{
-    let mut rest = word;
-    let mut n: usize = 0;
-    while rest != 0 {
-        let run = words::low_run(rest);
-        let a = number(journal, first + w * (base + run.from), w);
-        let e = number(journal, first + w * (base + run.to), w);
-        n += e - a;
-        rest = run.rest;
-    }
-    n
 }
 
 // How many data bytes the picked rows of a node with offsets of w bytes have: word by word of the mask, and by the runs within a word, so that no run
@@ -89,7 +68,7 @@ pub fn bytes_at_root(
         i += 1;
         // An empty word costs this test alone.
         if x != 0 {
-            n += word_bytes(journal, first, w, base, x);
+            n += word_spans(journal, first, w, base, x);
         }
     }
     n

@@ -12,7 +12,7 @@ use lib.Dec.{eqb}
 use lib.ListN.{length, getD, length-map}
 use Rattle.format.specs.Bytes.{bytesFor, raised}
 use Rattle.format.specs.declared.Kind.{Kind}
-use Rattle.format.specs.declared.Kind.the-variants.{Bits, Native, Fixed, Bytes32, Bytes64, Views, Lists32, Lists64, Runs, Struct, Union, Dictionary, Unknown}
+use Rattle.format.specs.declared.Kind.the-variants.{Bits, Native, Fixed, Bytes32, Bytes64, Views, Lists32, Lists64, Runs, Struct, Union, Dictionary, Nested32, Nested64, Unknown}
 use Rattle.format.specs.Node.{nodeCount, kindNumber, kindOf, kind, param, rows, valid, parent}
 use Rattle.format.specs.Verdict.{layout, firstSize, secondSize}
 use Rattle.format.specs.Kept.{keptRows, keptRuns, cells}
@@ -43,6 +43,8 @@ runs-only Runs f p n c d = absurd (f refl)
 runs-only Struct f p n c d = refl
 runs-only Union f p n c d = refl
 runs-only Dictionary f p n c d = refl
+runs-only Nested32 f p n c d = refl
+runs-only Nested64 f p n c d = refl
 runs-only Unknown f p n c d = refl
 
 module _ {b root table parents counts : List ℕ} (ready : Ready b root table parents counts (nodeCount b)) {i : ℕ} (h : i < nodeCount b) where

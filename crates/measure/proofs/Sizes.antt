@@ -8,10 +8,10 @@ use native.Mathlib.Omega.{arith}
 use lib.ListN.{length, length-append, length-take, length-drop, length-map}
 use Rattle.format.specs.Bytes.{join, chosen, bytesFor, packed, bytesAt, raised}
 use Rattle.format.specs.declared.Kind.{Kind}
-use Rattle.format.specs.declared.Kind.the-variants.{Bits, Native, Fixed, Bytes32, Bytes64, Views, Lists32, Lists64, Runs, Struct, Union, Dictionary, Unknown}
+use Rattle.format.specs.declared.Kind.the-variants.{Bits, Native, Fixed, Bytes32, Bytes64, Views, Lists32, Lists64, Runs, Struct, Union, Dictionary, Nested32, Nested64, Unknown}
 use Rattle.format.specs.Node.{nodeCount, kind, param, rows, skip, places, firstAt, secondAt, secondLength, valid}
 use Rattle.format.specs.Verdict.{layout, firstSize, secondSize}
-use Rattle.format.specs.Kept.{keptNode, keptRows, keptRuns, cells, firstEntry, secondEntry}
+use Rattle.format.specs.Kept.{keptNode, keptRows, keptRuns, cells, firstEntry, secondEntry, spanSize}
 use Rattle.format.specs.Write.{absent, holds, anyNull, bitmap, numbers, offsets, ends, first, second, dataLength, noNode, extract}
 use Rattle.format.proofs.Laws.{join-append, length-table, kept-at}
 use Rattle.format.specs.Size.{grownIf, bodySize, packSize, bufferSize, nodeSize}
@@ -102,6 +102,10 @@ module _ (b : List ℕ) (i : ℕ) (rs : List ℕ) (s : Sifted rs (rows b i)) whe
     unfolding offsets
     offsets-size w f = length-numbers w _ ∙ ap (λ (n : ℕ). w * n) (length-table _ _ ∙ simp length-map)
 
+    spans-size : (w : ℕ) → length (numbers w (offsets (map (spanSize w b i) rs))) ≡ w * suc (length rs)
+    unfolding offsets
+    spans-size w = length-numbers w _ ∙ ap (λ (n : ℕ). w * n) (length-table _ _ ∙ simp length-map)
+
     -- the first buffer, by kind: as many bytes as a column of so many rows, and so many runs, has
     pub first-grows : (k : Kind) → (k ≡ Unknown → ⊥) → firstAt b i + firstSize k (param b i) (places b i) c ≤ length b
         → grown at (first (cells k b i rs)) ≡ grownIf at (layout k .first) (firstSize k (param b i) (length rs) (length (keptRuns b i rs)))
@@ -118,6 +122,8 @@ module _ (b : List ℕ) (i : ℕ) (rs : List ℕ) (s : Sifted rs (rows b i)) whe
     first-grows Struct u h = gone at _
     first-grows Union u h = held at _ (first-size 1 (omega arith) ∙ one-mul (length rs))
     first-grows Dictionary u h = held at _ (first-size (param b i) h)
+    first-grows Nested32 u h = held at _ (spans-size 4)
+    first-grows Nested64 u h = held at _ (spans-size 8)
     first-grows Unknown u h = absurd (u refl)
 
   -- the second buffer, by kind
@@ -136,6 +142,8 @@ module _ (b : List ℕ) (i : ℕ) (rs : List ℕ) (s : Sifted rs (rows b i)) whe
   second-grows at Struct u h = gone at _
   second-grows at Union u h = gone at _
   second-grows at Dictionary u h = gone at _
+  second-grows at Nested32 u h = gone at _
+  second-grows at Nested64 u h = gone at _
   second-grows at Unknown u h = absurd (u refl)
 
 -- None is long
@@ -157,6 +165,8 @@ first-few Runs p n c h l m = few-bytes p c h m
 first-few Struct p n c h l m = omega arith
 first-few Union p n c h l m = omega arith
 first-few Dictionary p n c h l m = few-bytes p n h l
+first-few Nested32 p n c h l m = omega arith
+first-few Nested64 p n c h l m = omega arith
 first-few Unknown p n c h l m = omega arith
 
 pub second-few : (k : Kind) (n l : ℕ) → n ≤ 1_048_576 → l ≤ 2 ^ 30 → secondSize k n l ≤ 2 ^ 30
@@ -172,6 +182,8 @@ second-few Runs n l h m = omega arith
 second-few Struct n l h m = omega arith
 second-few Union n l h m = omega arith
 second-few Dictionary n l h m = omega arith
+second-few Nested32 n l h m = omega arith
+second-few Nested64 n l h m = omega arith
 second-few Unknown n l h m = omega arith
 
 pub grown-few : (at : ℕ) (t : Bool) (n : ℕ) → grownIf at t n ≤ at + 7 + n

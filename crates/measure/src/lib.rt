@@ -16,9 +16,9 @@ ghost use Rattle.nesting.specs.Rows.{picksOf, Ready, Counts, Table};
 ghost use Rattle.measure.specs.Size.{bodyEnd};
 use kept_data::data::any_null;
 use kept_data::data::data_length;
-use nesting::rows::count_kept;
 use nesting::table::RUNS;
 use nesting::table::node_count;
+use nesting::table::takes_scratch;
 use pack::read::kind_of;
 use size::bytes_for;
 use size::first_size;
@@ -28,6 +28,7 @@ use size::has_second;
 use size::raise;
 use size::second_size;
 use slots::Bits;
+use stretches::count::count_kept;
 
 // How many rows each node keeps. The root keeps the picked slots, which are counted before: `kept`.
 pub fn count_all(
@@ -133,7 +134,7 @@ pub fn measure(
     raise(end) + 40 * node_count(journal) + 16
 }
 
-// The scratch needed: for each runs node a bit for each row of its child.
+// The scratch needed: for each runs node and list a bit for each row of its child.
 pub fn scratch_needed(journal: &[u8], table: &[u32; 640]) -> usize
     requires { ⌜ Sound (now journal) × Table (now journal) (now table) ⌝ }
     ensures { λ r. ⌜ r ≡ scratchNeeded (now (journal .entry)) ⌝ }
@@ -144,7 +145,7 @@ pub fn scratch_needed(journal: &[u8], table: &[u32; 640]) -> usize
     while i < n {
         let node = i;
         i += 1;
-        if table[10 * node] == RUNS {
+        if takes_scratch(table[10 * node]) {
             need += bytes_for(table[10 * i + 2] as usize);
         }
     }

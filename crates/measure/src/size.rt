@@ -50,6 +50,8 @@ pub fn has_first(kind: Kind) -> bool
         Kind::Struct => false,
         Kind::Union => true,
         Kind::Dictionary => true,
+        Kind::Nested32 => true,
+        Kind::Nested64 => true,
         Kind::Unknown => true,
     }
 }
@@ -70,6 +72,8 @@ pub fn has_second(kind: Kind) -> bool
         Kind::Struct => false,
         Kind::Union => false,
         Kind::Dictionary => false,
+        Kind::Nested32 => false,
+        Kind::Nested64 => false,
         Kind::Unknown => true,
     }
 }
@@ -92,6 +96,8 @@ pub fn first_size(kind: Kind, p: usize, n: usize, c: usize) -> usize
         Kind::Struct => 0,
         Kind::Union => n,
         Kind::Dictionary => p * n,
+        Kind::Nested32 => 4 * (n + 1),
+        Kind::Nested64 => 8 * (n + 1),
         Kind::Unknown => 0,
     }
 }
@@ -114,6 +120,8 @@ pub fn second_size(kind: Kind, n: usize, l: usize) -> usize
         Kind::Struct => 0,
         Kind::Union => 0,
         Kind::Dictionary => 0,
+        Kind::Nested32 => 0,
+        Kind::Nested64 => 0,
         Kind::Unknown => 0,
     }
 }

@@ -16,15 +16,15 @@ use Rattle.nesting.specs.Rows.{between, Sifted}
 
 -- Ranges
 
-in-yes : (lo hi x : ℕ) → lo ≤ x → x < hi → within 0 lo hi x ≡ true
+pub in-yes : (lo hi x : ℕ) → lo ≤ x → x < hi → within 0 lo hi x ≡ true
 unfolding within
 in-yes lo hi x l h = rw (zero-add x, le-leb lo x l, lt-ltb x hi h)
 
-in-low : (lo hi x : ℕ) → x < lo → within 0 lo hi x ≡ false
+pub in-low : (lo hi x : ℕ) → x < lo → within 0 lo hi x ≡ false
 unfolding within
 in-low lo hi x l = rw (zero-add x, lt-leb lo x l)
 
-in-high : (lo hi x : ℕ) → hi ≤ x → within 0 lo hi x ≡ false
+pub in-high : (lo hi x : ℕ) → hi ≤ x → within 0 lo hi x ≡ false
 unfolding within
 in-high lo hi x h = rw (zero-add x, le-ltb x hi h) (and-false (leb lo x))
 
@@ -57,7 +57,7 @@ empty [] lo hi h = refl
 empty (x ∷ xs) lo hi h =
     rw (dite (decLe hi x) (λ k. in-high lo hi x k) (λ k. in-low lo hi x (omega arith)), empty xs lo hi h)
 
-between-append : (xs ys : List ℕ) (lo hi : ℕ) → between (xs ++ ys) lo hi ≡ (between xs lo hi || between ys lo hi)
+pub between-append : (xs ys : List ℕ) (lo hi : ℕ) → between (xs ++ ys) lo hi ≡ (between xs lo hi || between ys lo hi)
 unfolding between
 between-append [] ys lo hi = refl
 between-append (x ∷ xs) ys lo hi = rw (between-append xs ys lo hi) (sym (or-assoc (within 0 lo hi x) (between xs lo hi) (between ys lo hi)))

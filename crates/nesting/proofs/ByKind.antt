@@ -6,9 +6,9 @@ use native.Mathlib.Omega.{arith}
 use lib.Dec.{lit≤}
 use lib.ListN.{getD}
 use Rattle.format.specs.declared.Kind.{Kind}
-use Rattle.format.specs.declared.Kind.the-variants.{Bytes32, Bytes64, Runs, Struct, Union}
+use Rattle.format.specs.declared.Kind.the-variants.{Bytes32, Bytes64, Runs, Struct, Union, Nested32, Nested64}
 use Rattle.format.specs.Node.{nodeCount, kindNumber, kindOf, kind, param, rows, skip, places, validityAt, firstAt}
-use Rattle.format.specs.Accepted.{Sound, Shares, Carries, Inner}
+use Rattle.format.specs.Accepted.{Sound, Shares, Carries, Nests, Inner}
 use Rattle.format.specs.Accepted as is
 use Rattle.format.proofs.Accepted.{numberOf, number-kind, kind-number}
 use Rattle.nesting.specs.Rows.{Table}
@@ -49,11 +49,28 @@ module _ (b : List ℕ) (i : ℕ) where
       go Struct e is.Shares.struct = g (number-kind b i Struct e (λ q. let z : _≡_ {A = ℕ} 10 0 = ap numberOf q in omega arith))
       go Union e is.Shares.union = h (number-kind b i Union e (λ q. let z : _≡_ {A = ℕ} 11 0 = ap numberOf q in omega arith))
 
-  -- a node with children that hands on neither its rows nor its runs carries them
-  pub of-others : Inner (kind b i) → (kindNumber b i ≡ 9 → ⊥) → (Shares (kind b i) → ⊥) → Carries (kind b i)
-  of-others (is.Inner.shared s) f g = absurd (g s)
-  of-others (is.Inner.byRuns e) f g = absurd (f (number-kind b i Runs e (λ q. let z : _≡_ {A = ℕ} 9 0 = ap numberOf q in omega arith)))
-  of-others (is.Inner.carried c) f g = c
+  -- so is a list
+  pub of-nested32 : kindNumber b i ≡ 13 → Nests 4 (kind b i)
+  unfolding kindOf
+  of-nested32 e = rw (kind-number b i 13 e) is.Nests.nested32
+
+  pub of-nested64 : kindNumber b i ≡ 14 → Nests 8 (kind b i)
+  unfolding kindOf
+  of-nested64 e = rw (kind-number b i 14 e) is.Nests.nested64
+
+  pub not-nested : (kindNumber b i ≡ 13 → ⊥) → (kindNumber b i ≡ 14 → ⊥) → (w : ℕ) → Nests w (kind b i) → ⊥
+  not-nested g h w s = go w (kind b i) refl s
+    where
+      go : (w : ℕ) (k : Kind) → kind b i ≡ k → Nests w k → ⊥
+      go _ Nested32 e is.Nests.nested32 = g (number-kind b i Nested32 e (λ q. let z : _≡_ {A = ℕ} 13 0 = ap numberOf q in omega arith))
+      go _ Nested64 e is.Nests.nested64 = h (number-kind b i Nested64 e (λ q. let z : _≡_ {A = ℕ} 14 0 = ap numberOf q in omega arith))
+
+  -- a node with children that hands on neither its rows nor its runs nor list rows carries them
+  pub of-others : Inner (kind b i) → (kindNumber b i ≡ 9 → ⊥) → (kindNumber b i ≡ 13 → ⊥) → (kindNumber b i ≡ 14 → ⊥) → (Shares (kind b i) → ⊥) → Carries (kind b i)
+  of-others (is.Inner.shared s) f m n g = absurd (g s)
+  of-others (is.Inner.byRuns e) f m n g = absurd (f (number-kind b i Runs e (λ q. let z : _≡_ {A = ℕ} 9 0 = ap numberOf q in omega arith)))
+  of-others (is.Inner.carried c) f m n g = c
+  of-others (is.Inner.bySpans w s) f m n g = absurd (not-nested m n w s)
 
 module _ (b : List ℕ) {table : List ℕ} (t : Table b table) (i : ℕ) (h : i < nodeCount b) where
   pub kind-at : getD table (10 * i) 0 ≡ kindNumber b i

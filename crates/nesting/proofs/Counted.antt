@@ -6,13 +6,13 @@ use native.Mathlib.Omega.{arith}
 use lib.ListN.{length, getD}
 use Rattle.format.specs.declared.Kind.the-variants.{Runs}
 use Rattle.format.specs.Node.{nodeCount, kindNumber, kind, rows, parent}
-use Rattle.format.specs.Kept.{keptRows, carried}
-use Rattle.format.specs.Accepted.{Shares, Carries}
+use Rattle.format.specs.Kept.{keptRows, keptSpans, carried}
+use Rattle.format.specs.Accepted.{Shares, Carries, Nests}
 use Rattle.format.proofs.Laws.{length-table, kept-root}
-use Rattle.nesting.specs.Rows.{Ready, AtRuns, Counts}
+use Rattle.nesting.specs.Rows.{Ready, AtRuns, AtList, Counts}
 use Rattle.nesting.proofs.Arrays.{holds-less}
-use Rattle.nesting.proofs.ByKind.{of-struct, of-union, of-runs, not-shared, of-others, kind-at, rows-at}
-use Rattle.nesting.proofs.Tree.{kept-shared, kept-carried, run-child}
+use Rattle.nesting.proofs.ByKind.{of-struct, of-union, of-runs, of-nested32, of-nested64, not-shared, of-others, kind-at, rows-at}
+use Rattle.nesting.proofs.Tree.{kept-shared, kept-carried, kept-spans-of, run-child}
 
 -- with more nodes counted than are asked for
 pub ready-at : {b root table parents counts : List ℕ} {n k : ℕ} → Ready b root table parents counts n → k ≤ n → Ready b root table parents counts k
@@ -81,19 +81,21 @@ module _ {b root table parents counts : List ℕ} {node : ℕ} (ready : Ready b 
     pub runs-at : AtRuns b table (getD parents node 0)
     runs-at = record { sound = ready .sound; tabled = ready .tabled; inside = omega (arith, above-lt); isRuns = above-runs }
 
-    is-child : node ≡ suc (getD parents node 0)
-    is-child = rw is-parent (run-child b root (ready .sound) node some h (rw is-parent at above-runs))
+  -- below a list
+  module _ (w : ℕ) (q : Nests w (kind b (getD parents node 0))) where
+    list-at : AtList b table w (getD parents node 0)
+    list-at = record { sound = ready .sound; tabled = ready .tabled; inside = omega (arith, above-lt); isList = q }
 
-    pub runs-ready : Ready b root table parents counts (suc (getD parents node 0))
-    runs-ready = rw (← is-child) ready
+  pub list32-at : getD table (10 * getD parents node 0) 0 ≡ 13 → AtList b table 4 (getD parents node 0)
+  list32-at e = list-at 4 (of-nested32 b (getD parents node 0) (sym above-kind ∙ e))
 
-    pub runs-counted : (n : ℕ) → n ≡ length (keptRows b root (suc (getD parents node 0))) → n ≡ length (keptRows b root node)
-    runs-counted n q = q ∙ ap (λ (k : ℕ). length (keptRows b root k)) (sym is-child)
+  pub list64-at : getD table (10 * getD parents node 0) 0 ≡ 14 → AtList b table 8 (getD parents node 0)
+  list64-at e = list-at 8 (of-nested64 b (getD parents node 0) (sym above-kind ∙ e))
 
-  module _ (r : getD table (10 * getD parents node 0) 0 ≡ 9 → ⊥) (s : getD table (10 * getD parents node 0) 0 ≡ 10 → ⊥) (u : getD table (10 * getD parents node 0) 0 ≡ 11 → ⊥) where
+  module _ (r : getD table (10 * getD parents node 0) 0 ≡ 9 → ⊥) (m : getD table (10 * getD parents node 0) 0 ≡ 13 → ⊥) (n : getD table (10 * getD parents node 0) 0 ≡ 14 → ⊥) (s : getD table (10 * getD parents node 0) 0 ≡ 10 → ⊥) (u : getD table (10 * getD parents node 0) 0 ≡ 11 → ⊥) where
     carrier : Carries (kind b (getD parents node 0))
     carrier =
-        of-others b (getD parents node 0) (rw is-parent (ready .sound .shape .inner node some h)) (λ e. r (above-kind ∙ e)) (not-shared b (getD parents node 0) (λ e. s (above-kind ∙ e)) (λ e. u (above-kind ∙ e)))
+        of-others b (getD parents node 0) (rw is-parent (ready .sound .shape .inner node some h)) (λ e. r (above-kind ∙ e)) (λ e. m (above-kind ∙ e)) (λ e. n (above-kind ∙ e)) (not-shared b (getD parents node 0) (λ e. s (above-kind ∙ e)) (λ e. u (above-kind ∙ e)))
 
     pub under-empty : getD counts (getD parents node 0) 0 ≡ 0 → 0 ≡ length (keptRows b root node)
     under-empty e = counted-none carrier e

@@ -1,10 +1,12 @@
 -- Laws of kept rows.
 pub mod Between
+pub mod Lists
 pub mod Runs
 pub mod Tree
 pub mod Arrays
 pub mod ByKind
-pub mod Climb
+pub mod ListAt
+mod Valid
 pub mod Sieve
 pub mod Counted
 pub mod Picks

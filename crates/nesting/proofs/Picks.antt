@@ -1,5 +1,6 @@
 -- The picks of a bit source as the root's kept rows. Assumes nothing.
-use Prim.Native.Nat.{ℕ, _+_, _-_, _≤_}
+use Prim.Native.Nat.{ℕ, suc, _+_, _-_, _≤_}
+use mathlib.Core.Bool.{false}
 use mathlib.Core.List.{List}
 use mathlib.Core.Path.{_≡_, sym, ap, _∙_}
 use mathlib.Core.Logic.{dite}
@@ -14,7 +15,7 @@ use Rattle.slots.specs.Source.{slotOf}
 use Rattle.scan.specs.Asked.{anyIn}
 use Rattle.slots.proofs.Reading.{slot-past}
 use Rattle.nesting.specs.Rows.{between, picksOf, Sifted}
-use Rattle.nesting.proofs.Between.{empty, any-chosen, sifted, sifted-more, chosen-more}
+use Rattle.nesting.proofs.Between.{empty, above, told, any-chosen, sifted, sifted-more, chosen-more}
 
 module _ (s : List ℕ) (b : Bits) where
   pub picks-sifted : (n : ℕ) → b .len ≤ n → Sifted (picksOf s b) n
@@ -35,3 +36,12 @@ module _ (s : List ℕ) (b : Bits) where
 
   pub count-picks : length (picksFrom (slotOf s b) (b .len) 0) ≡ length (picksOf s b)
   count-picks = ap length (sym (chosen-picks (slotOf s b) (b .len)))
+
+-- none is picked past the rows
+pub none-past : (s : List ℕ) (bits : Bits) (n : ℕ) → Sifted (picksOf s bits) n → (r : ℕ) → n ≤ r → slotOf s bits r ≡ false
+none-past s bits n sifted r l =
+    dite (decLe (bits .len) r) (λ h. slot-past s bits r h)
+    (λ h.
+    sym (told (slotOf s bits) (bits .len) r (omega arith))
+    ∙ ap (λ (q : List ℕ). between q r (suc r)) (sifted .is)
+    ∙ above (λ k. between (picksOf s bits) k (suc k)) n r (suc r) l)

@@ -2,13 +2,13 @@
 use Prim.Native.Nat.{ℕ, suc, _+_, _-_, _*_, _≤_, _<_, min}
 use mathlib.Core.Bool.{Bool, true}
 use mathlib.Core.List.{List}
-use mathlib.Core.Path.{_≡_, refl, sym, ap, _∙_}
+use mathlib.Core.Path.{_≡_, sym, ap, _∙_}
 use mathlib.Core.Logic.{dite}
 use native.Mathlib.Decide.{decLe}
 use native.Mathlib.Numerals.{add-one}
 use native.Mathlib.Omega.{arith}
 use lib.Dec.{ltb}
-use lib.ListN.{length, getD}
+use lib.ListN.{getD}
 use Rattle.format.specs.Bytes.{chosen}
 use Rattle.format.specs.declared.Kind.the-variants.{Runs}
 use Rattle.format.specs.Node.{nodeCount, kind, rows, skip, runStart, runEnd, parent}
@@ -18,12 +18,12 @@ use Rattle.format.specs.Accepted as is
 use Rattle.slots.specs.declared.Bits.{Bits}
 use Rattle.slots.specs.Source.{slotOf}
 use Rattle.scan.specs.Asked.{anyIn}
-use Rattle.nesting.specs.Rows.{between, keeps, picksOf, edge, AtRuns, RootRuns, AtRoot}
+use Rattle.nesting.specs.Rows.{between, handsOn, picksOf, edge, AtRuns, RootRuns}
 use Rattle.format.proofs.Demand3.{chosen-agree}
 use Rattle.nesting.proofs.Between.{empty, above, cut, told}
 use Rattle.nesting.proofs.Runs.{rowsFrom, rowsTo, group}
 use Rattle.nesting.proofs.Picks.{any-picks}
-use Rattle.nesting.proofs.Tree.{kept-runs}
+use Rattle.nesting.proofs.Tree.{kept-runs, handed-runs}
 use Rattle.nesting.proofs.ByKind.{rows-at, rows-small, skip-at, skip-small}
 
 -- both ends of a range may be cut at n
@@ -50,9 +50,6 @@ module _ (b : List ℕ) (i len : ℕ) where
   pub edge-next : (j : ℕ) → min (runEnd b i j - skip b i) len ≡ edge b i len (j + 1)
   unfolding edge runStart
   edge-next j = rw (add-one j)
-
-  pub edge-before : (j k : ℕ) → (j ≡ 0 → ⊥) → k ≡ j - 1 → edge b i len (k + 1) ≡ edge b i len j
-  edge-before j k f e = ap (edge b i len) (omega arith)
 
 module _ {b table : List ℕ} {i : ℕ} (a : AtRuns b table i) where
   ends-are : RunEnds b i
@@ -96,6 +93,11 @@ module _ (b : List ℕ) (i : ℕ) (s : List ℕ) (bits : Bits) where
       ∙ ap (between (picksOf s bits) (edge b i (bits .len) j)) (edge-next b i (bits .len) j)
       ∙ sym (any-picks s bits (edge b i (bits .len) j) (edge b i (bits .len) (j + 1)))
 
+  -- the runs with a picked slot are those that the node hands on
+  pub runs-handed : kind b i ≡ Runs → (j : ℕ) → j < rows b (suc i) → runPicked b i s bits j ≡ handsOn b i (picksOf s bits) j
+  unfolding keptRuns
+  runs-handed e j h = sym (handed-runs b i e (picksOf s bits) j ∙ told (λ k. ltb 0 (groupSize b i (picksOf s bits) k)) (rows b (suc i)) j h ∙ run-picked j)
+
 module _ {b table : List ℕ} {i : ℕ} (r : RootRuns b table i) where
   above-child : parent b (suc i) ≡ i
   above-child = r .runs .sound .shape .under i (r .runs .inside) (rw (r .runs .isRuns) is.OneChild.runs)
@@ -110,11 +112,3 @@ module _ {b table : List ℕ} {i : ℕ} (r : RootRuns b table i) where
     pub kept-picked : chosen (runPicked b i s bits) (rows b (suc i)) ≡ keptRows b (picksOf s bits) (suc i)
     unfolding keptRuns
     kept-picked = sym (child-kept (picksOf s bits) ∙ chosen-agree _ _ (rows b (suc i)) (λ j h. run-picked b i s bits j))
-
-    pub keeps-picked : (j : ℕ) → j < rows b (suc i) → runPicked b i s bits j ≡ keeps b (picksOf s bits) (suc i) j
-    unfolding keeps
-    keeps-picked j h =
-        sym (ap (λ (rs : List ℕ). between rs j (suc j)) (sym kept-picked) ∙ told (runPicked b i s bits) (rows b (suc i)) j h)
-
-pub root-runs : {b table : List ℕ} {i : ℕ} {t : Bool} → AtRuns b table i → AtRoot b i t → t ≡ true → RootRuns b table i
-root-runs a r e = record { runs = a; same = r .same e }

@@ -1,5 +1,5 @@
 -- The kept rows of a node as a test, the question whether some of them lie in a range, and arrays filled node by node. Assumes nothing.
-use Prim.Native.Nat.{ℕ, suc, _+_, _-_, _*_, _<_, min}
+use Prim.Native.Nat.{ℕ, suc, _+_, _-_, _*_, _≤_, _<_, min}
 use mathlib.Core.Bool.{Bool, true, false, _||_}
 use mathlib.Core.List.{List, [], _∷_}
 use mathlib.Core.Path.{_≡_}
@@ -7,11 +7,11 @@ use lib.ListN.{length}
 use Rattle.format.specs.Bytes.{le, chosen, within}
 use Rattle.format.specs.declared.Kind.the-variants.{Runs}
 use Rattle.format.specs.Node.{tableStart, nodeCount, kind, rows, skip, runStart, parent}
-use Rattle.format.specs.Accepted.{Sound, Shares}
+use Rattle.format.specs.Accepted.{Sound, Shares, Nests}
 use Rattle.slots.specs.declared.Bits.{Bits}
 use Rattle.slots.specs.Source.{slotOf}
 use Rattle.pack.specs.Tree.{Holds, Parents}
-use Rattle.format.specs.Kept.{keptRows}
+use Rattle.format.specs.Kept.{keptRows, passedOn}
 
 -- some number of the list lies in [lo, hi)
 unfoldable pub between : List ℕ → ℕ → ℕ → Bool
@@ -29,6 +29,10 @@ pub record Sifted (xs : List ℕ) (n : ℕ) : Type 0 where
 -- row r of node i is kept, where the root keeps the rows `root`
 unfoldable pub keeps : List ℕ → List ℕ → ℕ → ℕ → Bool
 keeps b root i r = between (keptRows b root i) r (suc r)
+
+-- row r of node p's one child, the node after it, is kept where node p keeps the rows rs
+unfoldable pub handsOn : List ℕ → ℕ → List ℕ → ℕ → Bool
+handsOn b p rs r = between (passedOn (kind b p) b p (suc p) rs) r (suc r)
 
 -- the fields of all nodes, ten to a node, as the table has them
 abbrev pub Table : List ℕ → List ℕ → Type 0
@@ -54,6 +58,13 @@ pub record AtRuns (b table : List ℕ) (i : ℕ) : Type 0 where
   pub inside : i < nodeCount b
   pub isRuns : kind b i ≡ Runs
 
+-- node i is a list with offsets of w bytes, of an accepted journal whose node table is at hand
+pub record AtList (b table : List ℕ) (w i : ℕ) : Type 0 where
+  pub sound : Sound b
+  pub tabled : Table b table
+  pub inside : i < nodeCount b
+  pub isList : Nests w (kind b i)
+
 -- the nodes of an accepted journal: its table and parents as arrays
 pub record Nodes (b table parents : List ℕ) : Type 0 where
   pub sound : Sound b
@@ -65,9 +76,10 @@ pub record AtRoot (b : List ℕ) (node : ℕ) (t : Bool) : Type 0 where
   pub same : t ≡ true → (root : List ℕ) → keptRows b root node ≡ root
   pub long : t ≡ true → rows b node ≡ rows b 0
 
--- node t keeps the node's rows, and has as many
+-- node t, the node itself or one before it, keeps the node's rows, and has as many
 pub record Level (b : List ℕ) (node t : ℕ) : Type 0 where
   pub inside : t < nodeCount b
+  pub low : t ≤ node
   pub same : (root : List ℕ) → keptRows b root t ≡ keptRows b root node
   pub long : rows b t ≡ rows b node
 

@@ -1,5 +1,4 @@
-// Which rows each node of an accepted journal keeps, and how many, without a buffer.
+// The nodes of an accepted journal as numbers: the table, run ends and offsets, and the node whose rows a node keeps.
 pub mod edges;
-pub mod rows;
 pub mod table;
 pub mod top;

@@ -1,21 +1,39 @@
 // An accepted journal's node table as numbers, each field read once; and the run ends of a runs node.
 ghost use mathlib.Core.Path.{_≡_};
-ghost use mathlib.Core.Bool.{true};
+ghost use mathlib.Core.Bool.{true, _||_};
+ghost use lib.Dec.{eqb};
 ghost use mathlib.Core.List.{_∷_, []};
-ghost use Prim.Native.Nat.{_+_, _*_, _≤_, _<_, min, suc};
+ghost use Prim.Native.Nat.{_+_, _*_, _^_, _≤_, _<_, min, suc};
+ghost use lib.Bits.{bitAnd};
 ghost use lib.ListN.{length};
 ghost use Rattle.format.specs.Bytes.{le};
-ghost use Rattle.format.specs.Node.{tableStart, nodeCount, rows, runEnd, runStart};
+ghost use Rattle.format.specs.Node.{tableStart, nodeCount, rows, valid, firstNumber, runEnd, runStart};
+ghost use Rattle.format.specs.Slots.{wordFrom};
 ghost use Rattle.format.specs.Verdict.{oneOf};
 ghost use Rattle.format.specs.Accepted.{Shape};
-ghost use Rattle.nesting.specs.Rows.{Table, AtRuns};
+ghost use Rattle.nesting.specs.Rows.{Table, AtRuns, AtList};
 
-// Kinds by number: the children of runs keep its runs, those of struct and union its rows; all others are carried with all rows.
+// Kinds by number: the children of runs keep its runs, those of struct and union its rows, those of lists the rows of kept valid lists; all others are
+// carried with all rows.
 pub const RUNS: u32 = 9;
 
 pub const STRUCT: u32 = 10;
 
 pub const UNION: u32 = 11;
+
+pub const LIST32: u32 = 13;
+
+pub const LIST64: u32 = 14;
+
+// Validity at this place: no bitmap.
+pub const NO_BITMAP: u32 = 0xFFFF_FFFF;
+
+// A node of this kind has a bitmap in scratch for its child: runs and lists.
+pub fn takes_scratch(kind: u32) -> bool
+    ensures { λ t. ⌜ t ≡ (eqb kind 9 || eqb kind 13 || eqb kind 14) ⌝ }
+{
+    (kind == RUNS) | (kind == LIST32) | (kind == LIST64)
+}
 
 // The smaller of two numbers.
 pub fn least(a: usize, b: usize) -> usize
@@ -87,4 +105,49 @@ pub fn run_start(journal: &[u8], table: &[u32; 640], i: usize, j: usize) -> usiz
         return 0;
     }
     run_end(journal, table, i, j - 1)
+}
+
+// Where the child rows of row r of list node i start, by offsets of w bytes; those of the last row end where a row behind it would start.
+pub fn list_start(journal: &[u8], table: &[u32; 640], w: usize, i: usize, r: usize) -> usize
+    requires { ⌜ AtList (now journal) (now table) w i ⌝ }
+    requires { ⌜ r ≤ rows (now journal) i ⌝ }
+    ensures { λ o. ⌜ o ≡ firstNumber w (now (journal .entry)) i r ⌝ }
+{
+    let at = table[10 * i + 6] as usize;
+    let skip = table[10 * i + 3] as usize;
+    number(journal, at + w * (skip + r), w)
+}
+
+// Row r of list node i is valid.
+pub fn list_valid(journal: &[u8], table: &[u32; 640], w: usize, i: usize, r: usize) -> bool
+    requires { ⌜ AtList (now journal) (now table) w i ⌝ }
+    requires { ⌜ r < rows (now journal) i ⌝ }
+    ensures { λ t. ⌜ t ≡ valid (now (journal .entry)) i r ⌝ }
+{
+    let at = table[10 * i + 5];
+    if at == NO_BITMAP {
+        return true;
+    }
+    slots::bit(journal, 8 * (at as usize) + table[10 * i + 3] as usize + r)
+}
+
+// Of the rows base + k for the set bits k of a word, the valid ones of list node i, whose offsets have w bytes.
+pub fn valid_rows(
+    journal: &[u8],
+    table: &[u32; 640],
+    w: usize,
+    i: usize,
+    base: usize,
+    word: u64,
+) -> u64
+    requires { ⌜ AtList (now journal) (now table) w i ⌝ }
+    requires { ⌜ base < 2 ^ 63 ⌝ }
+    ensures { λ x. ⌜ x ≡ bitAnd word (wordFrom (valid (now (journal .entry)) i) 64 base) ⌝ }
+{
+    let at = table[10 * i + 5];
+    if at == NO_BITMAP {
+        return word;
+    }
+    let first = 8 * (at as usize) + table[10 * i + 3] as usize;
+    word & slots::load64(journal, first + base)
 }

@@ -5,7 +5,7 @@ use mathlib.Core.List.{List, map}
 use native.Mathlib.Omega.{arith}
 use lib.ListN.{length, length-append}
 use Rattle.format.specs.declared.Kind.{Kind}
-use Rattle.format.specs.declared.Kind.the-variants.{Bits as BitsKind, Native, Fixed, Bytes32, Bytes64, Views, Lists32, Lists64, Runs, Struct, Union, Dictionary, Unknown}
+use Rattle.format.specs.declared.Kind.the-variants.{Bits as BitsKind, Native, Fixed, Bytes32, Bytes64, Views, Lists32, Lists64, Runs, Struct, Union, Dictionary, Nested32, Nested64, Unknown}
 use Rattle.format.specs.Bytes.{join}
 use Rattle.format.specs.Kept.{KeptNode, cells, ownBytes, keptNode}
 use Rattle.format.specs.Node.{noBitmap, kind, valid}
@@ -46,6 +46,8 @@ module _ (b : List ℕ) (i : ℕ) (rs : List ℕ) (at : ℕ) where
   data-length Struct = refl
   data-length Union = refl
   data-length Dictionary = refl
+  data-length Nested32 = refl
+  data-length Nested64 = refl
   data-length Unknown = refl
 
 module _ {rest : ℕ} {x : Buffer} {old : List ℕ} {at : ℕ} {new : List ℕ} {r : Placed} (p : Puts rest x old at new r) where

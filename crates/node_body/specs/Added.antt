@@ -3,7 +3,7 @@ use Prim.Native.Nat.{ℕ, _-_}
 use mathlib.Core.List.{List}
 use mathlib.Core.Path.{_≡_}
 use Rattle.format.specs.declared.Kind.{Kind}
-use Rattle.format.specs.declared.Kind.the-variants.{Bits as BitsKind, Native, Fixed, Bytes32, Bytes64, Views, Lists32, Lists64, Runs, Struct, Union, Dictionary, Unknown}
+use Rattle.format.specs.declared.Kind.the-variants.{Bits as BitsKind, Native, Fixed, Bytes32, Bytes64, Views, Lists32, Lists64, Runs, Struct, Union, Dictionary, Nested32, Nested64, Unknown}
 use Rattle.format.specs.Node.{noBitmap}
 use Rattle.format.specs.Put.{Wrote}
 use Rattle.format.specs.Kept.{KeptNode}
@@ -26,6 +26,8 @@ dataSize Runs start next = 0
 dataSize Struct start next = 0
 dataSize Union start next = 0
 dataSize Dictionary start next = 0
+dataSize Nested32 start next = 0
+dataSize Nested64 start next = 0
 dataSize Unknown start next = 0
 
 -- a node's buffers are put behind the place where the body ends: their bytes, their starts, and the length of the data

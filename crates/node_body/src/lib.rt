@@ -42,6 +42,8 @@ fn data_size(k: Kind, start: usize, next: usize) -> usize
         Kind::Struct => return 0,
         Kind::Union => return 0,
         Kind::Dictionary => return 0,
+        Kind::Nested32 => return 0,
+        Kind::Nested64 => return 0,
         Kind::Unknown => return 0,
     }
 }

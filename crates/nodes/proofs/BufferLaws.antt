@@ -7,7 +7,7 @@ use native.Mathlib.Nat.{add-assoc, add-suc, mul-add, mul-le-mul-left, one-mul}
 use native.Mathlib.Omega.{arith}
 use lib.ListN.{length}
 use Rattle.format.specs.declared.Kind.{Kind}
-use Rattle.format.specs.declared.Kind.the-variants.{Bits as BitsKind, Native, Fixed, Bytes32, Bytes64, Views, Runs, Struct, Union, Dictionary, Unknown}
+use Rattle.format.specs.declared.Kind.the-variants.{Bits as BitsKind, Native, Fixed, Bytes32, Bytes64, Views, Runs, Struct, Union, Dictionary, Nested32, Nested64, Unknown}
 use Rattle.format.specs.Bytes.{bitAt, packed}
 use Rattle.format.specs.Accepted as Accepted
 use Rattle.format.specs.Kept.{cells, texts, ownBytes}
@@ -60,7 +60,7 @@ width-copies ofUnion h = omega arith
 width-copies ofDictionary h = h
 
 -- entries of w bytes that lie in the body for all places lie in it for the first rows after skip
-entries-after : (w b at s r n len : ℕ) → at + w * (s + r) ≤ b → len ≤ r → at + w * s + w * len ≤ b
+pub entries-after : (w b at s r n len : ℕ) → at + w * (s + r) ≤ b → len ≤ r → at + w * s + w * len ≤ b
 entries-after w b at s r n len h l =
     let split = mul-add w s r in
     let less = mul-le-mul-left w l in
@@ -232,6 +232,8 @@ pub data Single : Kind → Type 0 where
   struct : Single Struct
   union : Single Union
   dictionary : Single Dictionary
+  nested32 : Single Nested32
+  nested64 : Single Nested64
   unknown : Single Unknown
 
 pub second-none : (b : List ℕ) (i : ℕ) (rs : List ℕ) {k : Kind} → Single k → second (cells k b i rs) ≡ absent
@@ -244,6 +246,8 @@ second-none b i rs runs = refl
 second-none b i rs struct = refl
 second-none b i rs union = refl
 second-none b i rs dictionary = refl
+second-none b i rs nested32 = refl
+second-none b i rs nested64 = refl
 second-none b i rs unknown = refl
 
 pub second-absent : (b : List ℕ) (i : ℕ) (rs : List ℕ) {k : Kind} → kind b i ≡ k → Single k → second (cells (kind b i) b i rs) ≡ absent

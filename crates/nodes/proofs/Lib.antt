@@ -2,3 +2,4 @@
 pub mod BodyLaws
 pub mod NullLaws
 pub mod BufferLaws
+pub mod ListLaws

@@ -3,6 +3,7 @@ ghost use mathlib.Core.Path.{_≡_};
 ghost use mathlib.Core.List.{map};
 ghost use Prim.Native.Nat.{_+_, _*_, _≤_};
 ghost use lib.ListN.{length};
+ghost use Rattle.format.specs.Accepted.{Nests};
 ghost use Rattle.format.specs.Kept.{cells};
 ghost use Rattle.format.specs.Node.{valid, noBitmap, rows, kind, param, child};
 ghost use Rattle.format.specs.Write.{anyNull, bitmap, first, second};
@@ -204,6 +205,36 @@ fn second_texts64(
     )
 }
 
+// The first buffer of a list with offsets of `width` bytes: without a bitmap as a byte column's, and else a null row has no child row.
+fn first_spans(
+    out: &mut [u8],
+    at: usize,
+    journal: &[u8],
+    i: usize,
+    node: Node,
+    width: usize,
+    sel: Selection,
+    s: &[u8],
+    mask: Bits,
+    list: &[u32],
+) -> Placed
+    requires { ⌜ Picked (now journal) i node sel (now s) mask (now list) ⌝ }
+    requires { ⌜ Nests width (kind (now journal) i) ⌝ }
+    requires { ⌜ at + length (appended at (first (cells (kind (now journal) i) (now journal) i (rowsBy sel (now s) mask)))) ≤ length (now out) ⌝ }
+    ensures { λ r. ⌜ Puts 0 (first (cells (kind (now (journal .entry)) i) (now (journal .entry)) i (rowsBy sel (now (s .entry)) mask))) (now (out .entry)) at (now (out .exit)) r ⌝ }
+{
+    let place = row_zero(node.first_at, width, node.skip);
+    let validity = node.validity_at as usize;
+    if validity == NO_BITMAP {
+        if width == 4 {
+            return buffers::put_offsets32(out, at, journal, place, sel, s, mask, list);
+        }
+        return buffers::put_offsets64(out, at, journal, place, sel, s, mask, list);
+    }
+    let from = 8 * validity + node.skip as usize;
+    buffers::put_spans(out, at, journal, width, place, from, sel, s, mask, list)
+}
+
 // The first buffer of a runs node, whose child has n rows.
 fn first_runs(
     out: &mut [u8],
@@ -272,6 +303,8 @@ pub fn filter_first(
         Kind::Dictionary => {
             return first_entries(out, at, journal, i, node, width, sel, s, mask, list);
         }
+        Kind::Nested32 => return first_spans(out, at, journal, i, node, 4, sel, s, mask, list),
+        Kind::Nested64 => return first_spans(out, at, journal, i, node, 8, sel, s, mask, list),
         Kind::Unknown => return Placed { start: 0, next: at },
     }
 }
@@ -329,6 +362,8 @@ pub fn filter_second(
         Kind::Struct => return Placed { start: 0, next: at },
         Kind::Union => return Placed { start: 0, next: at },
         Kind::Dictionary => return Placed { start: 0, next: at },
+        Kind::Nested32 => return Placed { start: 0, next: at },
+        Kind::Nested64 => return Placed { start: 0, next: at },
         Kind::Unknown => return Placed { start: 0, next: at },
     }
 }

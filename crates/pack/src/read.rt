@@ -98,7 +98,7 @@ pub fn child_rows(pack: &[u8], i: u32) -> u32
 pub fn kind_of(n: u32) -> Kind
     ensures { λ r. ⌜ r ≡ kindOf n ⌝ }
 {
-    if 12 < n {
+    if 14 < n {
         return Kind::Unknown;
     }
     match n {
@@ -114,6 +114,8 @@ pub fn kind_of(n: u32) -> Kind
         10 => Kind::Struct,
         11 => Kind::Union,
         12 => Kind::Dictionary,
+        13 => Kind::Nested32,
+        14 => Kind::Nested64,
         _ => Kind::Unknown,
     }
 }

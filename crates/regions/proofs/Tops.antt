@@ -1,34 +1,30 @@
 -- The selection of each node's kept rows: the mask's, one by a bitmap in scratch, or all or none of them by the count. Assumes nothing.
-use Prim.Native.Nat.{ℕ, _+_, _*_, _^_, _≤_, _<_}
-use mathlib.Core.Bool.{Bool, true, false, true≢false, false≢true}
+use Prim.Native.Nat.{ℕ, _+_, _*_, _≤_, _<_}
+use mathlib.Core.Bool.{Bool, true, false, _||_, true≢false, false≢true}
 use mathlib.Core.List.{List, [], _∷_}
 use mathlib.Core.Path.{_≡_, refl, sym, ap, _∙_}
 use mathlib.Core.Logic.{dite}
 use native.Mathlib.Decide.{ℕ-discrete}
-use native.Mathlib.Nat.{zero-add}
 use native.Mathlib.Omega.{arith}
 use borrow.Author.Tests.{eq-eqb, ne-eqb}
-use lib.Dec.{ltb}
+use lib.Dec.{eqb, ltb}
 use lib.ListN.{length, getD}
-use Rattle.format.specs.declared.Kind.the-variants.{Runs}
-use Rattle.format.specs.Bytes.{chosen, bitIn}
-use Rattle.format.specs.Node.{nodeCount, kindNumber, kind, rows, parent}
+use Rattle.format.specs.Node.{nodeCount, kindNumber, ofKind, rows, parent}
+use Rattle.format.specs.Answer.{takesScratch}
 use Rattle.format.specs.Slots.{picksFrom}
 use Rattle.format.specs.Kept.{keptRows}
-use Rattle.format.proofs.SlotLaws.{chosen-picks, picks-ext, picks-none}
+use Rattle.format.proofs.SlotLaws.{chosen-picks, picks-none}
 use Rattle.slots.specs.declared.Bits.{Bits}
-use Rattle.slots.specs.Source.{slotOf, Lies}
-use Rattle.slots.proofs.Reading.{slot-is, set-plain}
 use Rattle.predicate.specs.declared.Held.the-variants.{Lazy}
 use Rattle.predicate.specs.declared.Selection.{Selection}
 use Rattle.predicate.specs.declared.Selection.the-variants.{Rows}
 use Rattle.nesting.specs.Rows.{picksOf, Nodes, Level, Top}
-use Rattle.nesting.proofs.ByKind.{of-runs, of-others, kind-at, rows-at, rows-small}
-use Rattle.nesting.proofs.Levels.{up, parent-few}
+use Rattle.nesting.proofs.ByKind.{of-others}
 use Rattle.nesting.proofs.Runs.{carried-chosen}
 use Rattle.nesting.proofs.Tree.{kept-all, kept-carried}
-use Rattle.fill.specs.Scratch.{Bitmap}
-use Rattle.regions.specs.Region.{plainBits, noneOrAll, Selects, Given, Tells}
+use Rattle.fill.specs.Scratch.{plainBits}
+use Rattle.fill.proofs.Reading.{plain-picks, plain-lies, nodes-of, top-long, top-long-few, above-few, takes-above}
+use Rattle.regions.specs.Region.{noneOrAll, Selects, Given, Tells}
 
 -- what selects the rows of a node selects those of one that keeps the same rows
 lower : {b root s list : List ℕ} {i t : ℕ} {sel : Selection} {bits : Bits} → Level b i t → Selects b t root sel s bits list → Selects b i root sel s bits list
@@ -40,17 +36,6 @@ module _ {b root m list scratch : List ℕ} {i : ℕ} {sel : Selection} {bits : 
 
   in-scratch : Selects b i root sel scratch bits list → Tells b i root m list scratch (record { sel = sel; bits = bits; «in_mask» = false })
   in-scratch f = record { byMask = λ e. absurd (false≢true e); byScratch = λ _. f }
-
--- a bitmap's bits pick the rows that it tells
-module _ {t : ℕ → Bool} {n : ℕ} {s : List ℕ} {at : ℕ} (map : Bitmap t n s at (length s)) where
-  slot-told : (j : ℕ) → j < n → slotOf s (plainBits at n) j ≡ t j
-  slot-told j h = slot-is s (plainBits at n) j h ∙ set-plain s (plainBits at n) j refl ∙ ap (λ (k : ℕ). bitIn s (8 * at + k)) (zero-add j) ∙ map .tells j h
-
-  plain-picks : picksFrom (slotOf s (plainBits at n)) n 0 ≡ chosen t n
-  plain-picks = picks-ext _ _ n 0 (λ j _ l. slot-told j (omega arith)) ∙ sym (chosen-picks t n)
-
-  plain-lies : length s < 2 ^ 60 → Lies s (plainBits at n)
-  plain-lies small = record { small = small; values = omega (arith, map .inside); validity = λ e. absurd (false≢true e) }
 
 -- where all of n rows are kept or none, their count says which
 none-picked : (n : ℕ) → picksFrom (λ _. false) n 0 ≡ []
@@ -73,28 +58,24 @@ module _ {m list scratch b table parents counts places : List ℕ} {bits : Bits}
   inside = top .level .inside
 
   nodes : Nodes b table parents
-  nodes = record { sound = g .ready .sound; tabled = g .ready .tabled; above = g .ready .above }
+  nodes = nodes-of (g .ready)
 
   -- the root's rows: the mask's selection
   pub told-root : t ≡ 0 → Tells b i (picksOf m bits) m list scratch (record { sel = sel; bits = bits; «in_mask» = true })
   told-root e = in-mask (lower (rw e at (top .level)) (g .selects))
 
   long : getD table (10 * t + 2) 0 ≡ rows b t
-  long = rows-at b (g .ready .tabled) t inside
+  long = top-long nodes top
 
   pub long-few : getD table (10 * t + 2) 0 ≤ 1_048_576
-  long-few = rw long (rows-small (g .ready .sound) t inside)
+  long-few = top-long-few nodes top
 
   module _ (some : 0 < t) where
-    pub above-few : getD parents t 0 < 64
-    above-few = parent-few nodes (top .level) some
+    pub parent-low : getD parents t 0 < 64
+    parent-low = above-few nodes top some
 
-    number-above : getD table (10 * getD parents t 0) 0 ≡ kindNumber b (parent b t)
-    number-above =
-        kind-at b (g .ready .tabled) (getD parents t 0) (omega (arith, up nodes (top .level) some, inside)) ∙ ap (kindNumber b) (g .ready .above .at t inside)
-
-    -- the child of a runs node: its bitmap
-    by-bitmap : kind b (parent b t) ≡ Runs → Selects b t (picksOf m bits) (Rows Lazy) scratch (plainBits (getD places t 0) (rows b t)) list
+    -- the child of a runs node or list: its bitmap
+    by-bitmap : takesScratch b (parent b t) ≡ true → Selects b t (picksOf m bits) (Rows Lazy) scratch (plainBits (getD places t 0) (rows b t)) list
     by-bitmap e =
         let map = g .bitmaps t some inside e in
         record {
@@ -104,16 +85,31 @@ module _ {m list scratch b table parents counts places : List ℕ} {bits : Bits}
           kept = plain-picks map ∙ sym (kept-all b (picksOf m bits) (g .ready .sound) (g .ready .rooted) t inside);
         }
 
-    pub told-runs : getD table (10 * getD parents t 0) 0 ≡ 9
+    pub told-runs : {u : Bool} → u ≡ (eqb (getD table (10 * getD parents t 0) 0) 9 || eqb (getD table (10 * getD parents t 0) 0) 13 || eqb (getD table (10 * getD parents t 0) 0) 14) → u ≡ true
         → Tells b i (picksOf m bits) m list scratch (record { sel = Rows Lazy; bits = plainBits (getD places t 0) (getD table (10 * t + 2) 0); «in_mask» = false })
-    told-runs e = rw long (in-scratch (lower (top .level) (by-bitmap (of-runs b (parent b t) (sym number-above ∙ e)))))
+    told-runs a e = rw long (in-scratch (lower (top .level) (by-bitmap (sym (takes-above nodes top some a) ∙ e))))
 
     -- a carried child: all rows or none
-    module _ (other : getD table (10 * getD parents t 0) 0 ≡ 9 → ⊥) where
+    module _ {u : Bool} (asked : u ≡ (eqb (getD table (10 * getD parents t 0) 0) 9 || eqb (getD table (10 * getD parents t 0) 0) 13 || eqb (getD table (10 * getD parents t 0) 0) 14)) (other : u ≡ false) where
+      not-taken : takesScratch b (parent b t) ≡ false
+      not-taken = sym (takes-above nodes top some asked) ∙ other
+
+      not-nine : kindNumber b (parent b t) ≡ 9 → ⊥
+      unfolding takesScratch ofKind
+      not-nine e = true≢false (rw e at not-taken)
+
+      not-thirteen : kindNumber b (parent b t) ≡ 13 → ⊥
+      unfolding takesScratch ofKind
+      not-thirteen e = true≢false (rw e at not-taken)
+
+      not-fourteen : kindNumber b (parent b t) ≡ 14 → ⊥
+      unfolding takesScratch ofKind
+      not-fourteen e = true≢false (rw e at not-taken)
+
       kept-picks : keptRows b (picksOf m bits) t ≡ picksFrom (λ _. ltb 0 (length (keptRows b (picksOf m bits) (parent b t)))) (rows b t) 0
       kept-picks =
           kept-carried b (picksOf m bits) t some
-          (of-others b (parent b t) (g .ready .sound .shape .inner t some inside) (λ e. other (number-above ∙ e)) (top .last some))
+          (of-others b (parent b t) (g .ready .sound .shape .inner t some inside) not-nine not-thirteen not-fourteen (top .last some))
           ∙ carried-chosen (keptRows b (picksOf m bits) (parent b t)) (rows b t)
           ∙ chosen-picks _ (rows b t)
 

@@ -3,8 +3,9 @@ ghost use mathlib.Core.Path.{_≡_};
 ghost use Prim.Native.Nat.{_<_};
 ghost use Rattle.format.specs.Node.{nodeCount};
 ghost use Rattle.nesting.specs.Rows.{picksOf};
-ghost use Rattle.regions.specs.Region.{plainBits, noneOrAll, Given, Tells};
-use nesting::table::RUNS;
+ghost use Rattle.regions.specs.Region.{noneOrAll, Given, Tells};
+use fill::plain_bits;
+use nesting::table::takes_scratch;
 use nesting::top::top_of;
 use predicate::Held;
 use predicate::Selection;
@@ -17,19 +18,6 @@ pub struct Told {
     pub in_mask: bool,
 }
 
-// So many rows from byte `at` of a bitmap.
-fn plain_bits(at: usize, len: usize) -> Bits
-    ensures { λ r. ⌜ r ≡ plainBits at len ⌝ }
-{
-    Bits {
-        values_at: at,
-        has_validity: false,
-        validity_at: 0,
-        skip: 0,
-        len,
-    }
-}
-
 // All rows of a carried node, or none: no bits are read.
 fn carried(kept: usize, len: usize) -> Selection
     ensures { λ r. ⌜ r ≡ noneOrAll kept len ⌝ }
@@ -40,8 +28,8 @@ fn carried(kept: usize, len: usize) -> Selection
     Selection::Everything(len)
 }
 
-// The rows that node i keeps. Struct and union hand on their own; a root's are told by the mask, those of a child of runs by its
-// bitmap in scratch, and a carried child keeps all rows or none.
+// The rows that node i keeps. Struct and union hand on their own; a root's are told by the mask, those of a child of runs or of a list by
+// its bitmap in scratch, and a carried child keeps all rows or none.
 pub fn rows_of(
     mask: &[u8],
     bits: Bits,
@@ -68,7 +56,7 @@ pub fn rows_of(
         };
     }
     let len = table[10 * t + 2] as usize;
-    if table[10 * (parents[t] as usize)] == RUNS {
+    if takes_scratch(table[10 * (parents[t] as usize)]) {
         return Told {
             sel: Selection::Rows(Held::Lazy),
             bits: plain_bits(places[t], len),

@@ -1,7 +1,7 @@
 -- The extract of an accepted journal has the journal's columns and tree, and, read back with all its rows, the kept part that it was made from. Assumes nothing.
-use Prim.Native.Nat.{ℕ, zero, suc, _+_, _*_, _^_, _≤_, _<_}
+use Prim.Native.Nat.{ℕ, zero, suc, _+_, _-_, _*_, _^_, _≤_, _<_}
 use mathlib.Core.Path.{_≡_, refl, sym, ap, ap₂, _∙_}
-use mathlib.Core.Bool.{Bool, false}
+use mathlib.Core.Bool.{Bool, true, false, cond}
 use mathlib.Core.List.{List, [], _∷_, map}
 use native.Mathlib.Nat.{mul-suc, mul-le-mul-left, one-le-pow}
 use native.Mathlib.Omega.{arith}
@@ -9,14 +9,14 @@ use borrow.Author.Tests.{lt-ltb}
 use lib.Dec.{lit<}
 use lib.ListN.{length, getD, length-map}
 use Rattle.format.specs.declared.Kind.{Kind}
-use Rattle.format.specs.declared.Kind.the-variants.{Bits, Native, Fixed, Bytes32, Bytes64, Views, Lists32, Lists64, Runs, Struct, Union, Dictionary, Unknown}
+use Rattle.format.specs.declared.Kind.the-variants.{Bits, Native, Fixed, Bytes32, Bytes64, Views, Lists32, Lists64, Runs, Struct, Union, Dictionary, Nested32, Nested64, Unknown}
 use Rattle.format.specs.Bytes.{table, join, bytesAt, bitAt, countIf, within}
-use Rattle.format.specs.Node.{tableStart, nodeCount, kindNumber, kindOf, kind, param, rows, skip, kids, firstAt, secondAt, secondLength, field, valid, places, runEnd, runStart, child}
+use Rattle.format.specs.Node.{tableStart, nodeCount, kindNumber, kindOf, kind, param, rows, skip, kids, firstAt, secondAt, secondLength, field, valid, places, runEnd, runStart, child, firstNumber}
 use Rattle.format.specs.Node.{ancestors, parent}
 use Rattle.format.specs.Verdict.{packLimit, firstSize, secondSize}
-use Rattle.format.specs.Kept.{Column, columns, KeptNode, Cells, flags, entries, texts, ranges, groups, firstEntry, secondEntry, ownBytes, cells, keptNode, keptPart, keptRows, keptRuns, carried, groupSize, inRun}
+use Rattle.format.specs.Kept.{Column, columns, KeptNode, Cells, flags, entries, texts, ranges, groups, spans, firstEntry, secondEntry, ownBytes, cells, keptNode, keptPart, keptRows, keptRuns, spanSize, keptSpans, carried, groupSize, inRun}
 use Rattle.format.specs.Write.{holds, total, write, extract, first, second, noColumn, noNode}
-use Rattle.format.specs.Accepted.{OneChild, Inner, shared, byRuns, Sound}
+use Rattle.format.specs.Accepted.{OneChild, Nests, Inner, shared, byRuns, bySpans, Sound}
 use Rattle.format.specs.Accepted as is
 use Rattle.format.proofs.Laws.{getD-table, kept-root, kept-at}
 use Rattle.format.proofs.Measure.{length-columns}
@@ -24,10 +24,10 @@ use Rattle.format.proofs.Numbers.{table-ext, table-front, le-lt, length-bytes}
 use Rattle.format.proofs.Accepted.{sound}
 use Rattle.roundtrip.specs.Back.{Extracted, allRows}
 use Rattle.roundtrip.specs.Placed.{Fits, columnAt, nodeAt}
-use Rattle.roundtrip.proofs.Parts.{getD-map, map-rows}
+use Rattle.roundtrip.proofs.Parts.{getD-map, map-rows, total-more}
 use Rattle.roundtrip.proofs.Written.{node-count, kind-back, param-back, rows-back, skip-back, kids-back, valid-back}
-use Rattle.roundtrip.proofs.Cells.{total-mono, flags-back, entries-back, seconds-back, text-back, end-back, start-back}
-use Rattle.roundtrip.proofs.Rows.{kept-shared, kept-carried, kept-runs, kept-below, all-shared, some-shared, between, chosen-all}
+use Rattle.roundtrip.proofs.Cells.{total-mono, flags-back, entries-back, seconds-back, text-back, span-back, end-back, start-back}
+use Rattle.roundtrip.proofs.Rows.{kept-shared, kept-carried, kept-runs, kept-nested, only-nested, kept-below, count-spans, spans-follow, all-shared, some-shared, between, chosen-all}
 
 -- a child carried again
 carried-again : (rs : List ℕ) (n : ℕ) → carried (allRows (length rs)) (length (carried rs n)) ≡ allRows (length (carried rs n))
@@ -187,6 +187,75 @@ module _ {b rs : List ℕ} (x : Extracted b rs) where
         (rw (group-again j (omega arith))
         (some-shared b i (facts .runEnds i l k) (kept i) (kept-below b rs facts (x .picked) i l) j (omega (arith, length-map (keptRuns b i (kept i)) (groupSize b i (kept i)))))))
 
+  -- ---- lists
+
+  module _ (w i : ℕ) (l : i < nodeCount b) (k : Nests w (kind b i)) where
+    abbrev pub lengths : List ℕ
+    lengths = map (spanSize w b i) (kept i)
+
+    pub spans-are : nodeAt (keptPart b rs) i .values ≡ spans w lengths
+    unfolding keptNode cells
+    spans-are = ap (λ (n : KeptNode). n .values) (node-at i l) ∙ go w (kind b i) k
+      where
+        go : (w : ℕ) (k : Kind) → Nests w k → cells k b i (kept i) ≡ spans w (map (spanSize w b i) (kept i))
+        go _ _ is.Nests.nested32 = refl
+        go _ _ is.Nests.nested64 = refl
+
+    only-child : OneChild (kind b i)
+    only-child = only-nested w (kind b i) k
+
+    -- the child has as many rows as the lists together
+    child-kept : kept (child i) ≡ keptSpans w b i (kept i)
+    child-kept =
+        let under : parent b (child i) ≡ i = facts .shape .under i l only-child in
+        kept-nested b rs (child i) (omega arith) w (rw under k) ∙ ap (λ (p : ℕ). keptSpans w b p (kept p)) under
+
+    pub child-count : rows e (child i) ≡ total lengths (length (kept i))
+    child-count = rows-kept (child i) (facts .shape .next i l only-child) ∙ ap length child-kept ∙ count-spans w b i (kept i)
+
+    pub child-few : total lengths (length (kept i)) ≤ 1_048_576
+    unfolding places
+    child-few =
+        let c : child i < nodeCount b = facts .shape .next i l only-child in
+        omega (arith, child-count, rows-kept (child i) c, kept-below b rs facts (x .picked) (child i) c .few, facts .agree .limit (child i) c)
+
+    lengths-lt : total lengths (length lengths) < 256 ^ w
+    lengths-lt = go w (kind b i) k
+      where
+        go : (v : ℕ) (k : Kind) → Nests v k → total lengths (length lengths) < 256 ^ v
+        go _ _ is.Nests.nested32 = omega (arith, child-few, ap (total lengths) (length-map (kept i) (spanSize w b i)))
+        go _ _ is.Nests.nested64 = omega (arith, child-few, ap (total lengths) (length-map (kept i) (spanSize w b i)))
+
+    -- offsets count from 0
+    pub list-offset : (r : ℕ) → r ≤ length (kept i) → firstNumber w e i r ≡ total lengths r
+    unfolding extract
+    list-offset r m = span-back (columns b) (keptPart b rs) fits i (inside i l) w lengths spans-are lengths-lt r (rw (length-map (kept i) (spanSize w b i)) m)
+
+    -- and a row is null as it was: each list has as many child rows as before
+    list-valid : (r : ℕ) → r < length (kept i) → valid e i r ≡ valid b i (getD (kept i) r 0)
+    unfolding extract keptNode
+    list-valid r m =
+        valid-back (columns b) (keptPart b rs) fits i (inside i l) r (rw (count-marks i l) m)
+        ∙ ap (λ (n : KeptNode). getD (n .marks) r false) (node-at i l) ∙ getD-map (valid b i) (kept i) r 0 false m
+
+    pub list-length : (r : ℕ) → r < length (kept i) → spanSize w e i r ≡ getD lengths r 0
+    unfolding spanSize
+    list-length r m =
+        rw (list-valid r m, list-offset r (omega arith), list-offset (suc r) m, getD-map (spanSize w b i) (kept i) r 0 0 m) (go (valid b i (getD (kept i) r 0)) refl)
+      where
+        from : ℕ
+        from = getD (kept i) r 0
+
+        go : (t : Bool) → valid b i from ≡ t → cond t (total lengths (suc r) - total lengths r) 0 ≡ cond (valid b i from) (firstNumber w b i (suc from) - firstNumber w b i from) 0
+        go true v = let d : total lengths (suc r) - total lengths r ≡ getD lengths r 0 = omega (arith, total-more lengths r) in d ∙ getD-map (spanSize w b i) (kept i) r 0 0 m
+        go false v = rw v
+
+    pub spans-again : keptSpans w e i (allRows (rows e i)) ≡ allRows (rows e (child i))
+    spans-again =
+        ap (λ (n : ℕ). keptSpans w e i (allRows n)) (rows-kept i l)
+        ∙ spans-follow w e i lengths (length (kept i)) list-length (λ r m. list-offset r (omega arith))
+        ∙ ap allRows (sym child-count)
+
   -- ---- the kept rows: all of them
 
   abbrev again : ℕ → List ℕ
@@ -218,6 +287,9 @@ module _ {b rs : List ℕ} (x : Extracted b rs) where
           let one : OneChild (kind b p) = rw t is.OneChild.runs in
           let c : child p ≡ i = sym (facts .shape .only i h l one) in
           kept-runs e (allRows (rows e 0)) i h (kind-is ∙ t) ∙ ap₂ (keptRuns e) parent-is above ∙ runs-again p up t ∙ ap (λ (n : ℕ). allRows (rows e n)) c
+      go (bySpans w t) =
+          let c : child p ≡ i = sym (facts .shape .only i h l (only-nested w (kind b p) t)) in
+          kept-nested e (allRows (rows e 0)) i h w (rw kind-is t) ∙ ap₂ (keptSpans w e) parent-is above ∙ spans-again w p up t ∙ ap (λ (n : ℕ). allRows (rows e n)) c
       go (is.Inner.carried t) =
           let n : rows e i ≡ length (carried (kept p) (rows b i)) = rows-kept i l ∙ ap length (kept-carried b rs i h t) in
           kept-carried e (allRows (rows e 0)) i h (rw kind-is t) ∙ ap₂ carried (above ∙ ap allRows (rows-kept p up)) n ∙ carried-again (kept p) (rows b i)
@@ -328,6 +400,9 @@ module _ {b rs : List ℕ} (x : Extracted b rs) where
         ap (map (groupSize e i (allRows (rows e i)))) (runs-again i l q)
         ∙ map-rows (groupSize e i (allRows (rows e i))) (sizes i l q) 0 (rows e (child i)) n (λ j m. group-again i l q j (omega arith))
 
+    lists-again : (w : ℕ) → Nests w (kind b i) → map (spanSize w e i) (allRows (rows e i)) ≡ map (spanSize w b i) (kept i)
+    lists-again w q = rows-as (spanSize w e i) (spanSize w b i) 0 (list-length w i l q)
+
     -- where the journal's buffers end
     pub first-fits : (k : Kind) → kind b i ≡ k → firstAt b i + firstSize k (param b i) (places b i) (rows b (child i)) ≤ tableStart b
     first-fits k q = rw q at (facts .inBody i l .first)
@@ -352,6 +427,8 @@ module _ {b rs : List ℕ} (x : Extracted b rs) where
         go Struct q = refl
         go Union q = ap entries (firsts-again 1 _ (values-are Union q) (omega (arith, first-fits Union q)) refl)
         go Dictionary q = rw (same-param i l) (ap entries (firsts-again (param b i) _ (values-are Dictionary q) (first-fits Dictionary q) refl))
+        go Nested32 q = ap (spans 4) (lists-again 4 (rw q is.Nests.nested32))
+        go Nested64 q = ap (spans 8) (lists-again 8 (rw q is.Nests.nested64))
         go Unknown q = refl
 
     node-again : keptNode e i (allRows (rows e i)) ≡ keptNode b i (kept i)

@@ -9,7 +9,7 @@ use lib.ListN.{length, getD, length-map}
 use Rattle.format.specs.Bytes.{table, join, sumBelow, le, bitAt, bytesAt, packed}
 use Rattle.format.specs.Node.{param, skip, firstAt, firstNumber, runEnd, runStart}
 use Rattle.format.specs.Verdict.{packLimit}
-use Rattle.format.specs.Kept.{Column, KeptNode, flags, texts, groups, firstEntry, secondEntry, ownBytes}
+use Rattle.format.specs.Kept.{Column, KeptNode, flags, texts, groups, spans, firstEntry, secondEntry, ownBytes}
 use Rattle.format.specs.Write.{holds, total, numbers, offsets, ends, write, first, second}
 use Rattle.format.proofs.Laws.{length-table, getD-table}
 use Rattle.format.proofs.Measure.{length-packed, length-numbers}
@@ -100,6 +100,16 @@ module _ (cs : List Column) (ks : List KeptNode) (fits : Fits cs ks) (i : ℕ) (
     pub text-back : (r : ℕ) → r < length ts → ownBytes w (write cs ks) i r ≡ getD ts r []
     unfolding ownBytes second
     text-back r l = rw (offset-back r (omega arith), offset-back (suc r) l) (text-in (write cs ks) _ _ ts r (second-lies cs ks fits i h (join ts) (ap second e)) l)
+
+  -- the offsets of lists count from 0 too
+  module _ (w : ℕ) (sizes : List ℕ) (e : nodeAt ks i .values ≡ spans w sizes) (small : total sizes (length sizes) < 256 ^ w) where
+    pub span-back : (r : ℕ) → r ≤ length sizes → firstNumber w (write cs ks) i r ≡ total sizes r
+    unfolding firstNumber first offsets
+    span-back r l =
+        let n : length (table (total sizes) (suc (length sizes))) ≡ suc (length sizes) = length-table (total sizes) (suc (length sizes)) in
+        let g : getD (table (total sizes) (suc (length sizes))) r 0 ≡ total sizes r = getD-table (total sizes) (suc (length sizes)) r 0 (omega arith) in
+        let s : total sizes r < 256 ^ w = omega (arith, total-mono sizes r (length sizes) l) in
+        rw (at-row w r) (number-in (write cs ks) _ _ w _ r (first-lies cs ks fits i h _ (ap first e)) (omega arith) (rw g s) ∙ g)
 
   -- each run ends at the running count
   module _ (w : ℕ) (sizes : List ℕ) (e : nodeAt ks i .values ≡ groups w sizes) (p : param (write cs ks) i ≡ w) (small : total sizes (length sizes) < 256 ^ w) where

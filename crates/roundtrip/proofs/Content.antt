@@ -10,20 +10,20 @@ use borrow.Author.Tests.{le-ltb, lt-leb}
 use lib.Dec.{leb, ltb, lit<}
 use lib.ListN.{length, getD, length-map}
 use Rattle.format.specs.declared.Kind.{Kind}
-use Rattle.format.specs.declared.Kind.the-variants.{Bits, Native, Fixed, Bytes32, Bytes64, Views, Lists32, Lists64, Runs, Struct, Union, Dictionary, Unknown}
+use Rattle.format.specs.declared.Kind.the-variants.{Bits, Native, Fixed, Bytes32, Bytes64, Views, Lists32, Lists64, Runs, Struct, Union, Dictionary, Nested32, Nested64, Unknown}
 use Rattle.format.specs.Bytes.{anyBelow, le, negative, join, bytesAt}
 use Rattle.format.specs.Node.{tableStart, nodeCount, kind, param, rows, skip, kids, firstAt, secondAt, secondLength, valid, places, parent, child, dataBuffer, firstNumber, secondNumber, runEnd, runStart}
 use Rattle.format.specs.Verdict.{packLimit, wrongContent, badContent, badOffsets, badView, badRange, badRuns, viewField}
 use Rattle.format.specs.Kept.{texts, columns, cells, keptPart, keptRows, keptRuns, groupSize, carried, firstEntry, secondEntry, ownBytes}
 use Rattle.format.specs.Write.{holds, total, first, second, dataLength, extract}
-use Rattle.format.specs.Accepted.{OneChild, Carries, ViewLies}
+use Rattle.format.specs.Accepted.{OneChild, Carries, Nests, ViewLies}
 use Rattle.format.specs.Accepted as is
 use Rattle.format.proofs.Laws.{none-any, length-table}
 use Rattle.roundtrip.specs.Back.{Extracted}
 use Rattle.roundtrip.proofs.Parts.{getD-map, le-part, total-join, total-more}
 use Rattle.roundtrip.proofs.Cells.{total-mono, offset-back, data-short}
 use Rattle.roundtrip.proofs.Rows.{kept-carried, kept-below, some-shared}
-use Rattle.roundtrip.proofs.Again.{facts, fits, inside, same-kind, same-param, same-kids, rows-kept, valid-again, values-are, first-again, second-again, first-fits, second-fits, sizes, run-count, run-end, run-start, total-kept}
+use Rattle.roundtrip.proofs.Again.{facts, fits, inside, same-kind, same-param, same-kids, rows-kept, valid-again, values-are, first-again, second-again, first-fits, second-fits, sizes, run-count, run-end, run-start, total-kept, lengths, child-count, child-few, list-offset}
 use Rattle.roundtrip.proofs.Shape.{or-none, each-node, places-kept, length-is}
 
 -- the numbers of an entry
@@ -127,10 +127,32 @@ module _ {b rs : List ℕ} (x : Extracted b rs) where
           (le-ltb (secondLength e i) (firstNumber w e i (length kept))
           (omega (arith, offset-is (length kept) (omega arith), ap (total (map length own)) (length-map kept (ownBytes w b i)), total-join own, length-is x i l k q ∙ ap dataLength are)))
 
-      offsets-right : badOffsets w e i ≡ false
+      offsets-right : badOffsets w (secondLength e i) e i ≡ false
       unfolding badOffsets
       offsets-right =
           or-none (or-none (offset-positive 0 (omega arith)) (each-row _ (λ r m. or-none (offset-positive (suc r) m) (offset-rises r m)))) offset-last
+
+    -- offsets of lists rebuilt
+    module _ (w : ℕ) (k : Nests w (kind b i)) (signed : 1_048_576 < 2 ^ (8 * w - 1)) where
+      list-few : (r : ℕ) → r ≤ length kept → total (lengths x w i l k) r ≤ 1_048_576
+      list-few r m = omega (arith, total-mono (lengths x w i l k) r (length kept) m, child-few x w i l k)
+
+      list-positive : (r : ℕ) → r ≤ length kept → negative w (firstNumber w e i r) ≡ false
+      list-positive r m = positive w (firstNumber w e i r) (omega (arith, list-offset x w i l k r m, list-few r m))
+
+      list-rises : (r : ℕ) → r < length kept → ltb (firstNumber w e i (suc r)) (firstNumber w e i r) ≡ false
+      list-rises r m =
+          le-ltb (firstNumber w e i (suc r)) (firstNumber w e i r)
+          (omega (arith, list-offset x w i l k r (omega arith), list-offset x w i l k (suc r) m, total-more (lengths x w i l k) r))
+
+      list-last : ltb (rows e (child i)) (firstNumber w e i (rows e i)) ≡ false
+      list-last =
+          rw (rows-kept x i l)
+          (le-ltb (rows e (child i)) (firstNumber w e i (length kept)) (omega (arith, list-offset x w i l k (length kept) (omega arith), child-count x w i l k)))
+
+      lists-right : badOffsets w (rows e (child i)) e i ≡ false
+      unfolding badOffsets
+      lists-right = or-none (or-none (list-positive 0 (omega arith)) (each-row _ (λ r m. or-none (list-positive (suc r) m) (list-rises r m)))) list-last
 
     -- views copied
     module _ (q : kind b i ≡ Views) (r : ℕ) (m : r < length kept) where
@@ -256,6 +278,8 @@ module _ {b rs : List ℕ} (x : Extracted b rs) where
     node-content Struct q = refl
     node-content Union q = each-row (λ r. leb (kids e i) (firstNumber 1 e i r)) (id-right q)
     node-content Dictionary q = each-row (λ r. valid e i r && leb (rows e (child i)) (firstNumber (param e i) e i r)) (key-right q)
+    node-content Nested32 q = lists-right 4 (rw q is.Nests.nested32) (lit< tt)
+    node-content Nested64 q = lists-right 8 (rw q is.Nests.nested64) (lit< tt)
     node-content Unknown q = refl
 
   pub content-right : wrongContent e ≡ false

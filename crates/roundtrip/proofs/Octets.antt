@@ -7,7 +7,7 @@ use native.Mathlib.Omega.{arith}
 use lib.Dec.{lit<}
 use lib.ListN.{length, getD, take, drop, replicate}
 use Rattle.format.specs.declared.Kind.{Kind}
-use Rattle.format.specs.declared.Kind.the-variants.{Bits, Native, Fixed, Bytes32, Bytes64, Views, Lists32, Lists64, Runs, Struct, Union, Dictionary, Unknown}
+use Rattle.format.specs.declared.Kind.the-variants.{Bits, Native, Fixed, Bytes32, Bytes64, Views, Lists32, Lists64, Runs, Struct, Union, Dictionary, Nested32, Nested64, Unknown}
 use Rattle.format.specs.Bytes.{table, join, toLe, bytesAt, packed, raised, padded}
 use Rattle.format.specs.Node.{nodeCount, rows}
 use Rattle.format.specs.Kept.{columns, keptNode, keptPart, keptRows, cells, firstEntry, secondEntry, ownBytes}
@@ -17,7 +17,7 @@ use Rattle.format.proofs.PackedLaws.{packed-word}
 use Rattle.roundtrip.specs.Back.{Extracted, allRows}
 use Rattle.roundtrip.specs.Placed.{bodyAt}
 use Rattle.roundtrip.proofs.Again.{node-at}
-use Rattle.roundtrip.proofs.Rows.{below-all}
+use Rattle.roundtrip.proofs.Rows.{chosen-rows}
 use Rattle.roundtrip.proofs.Roundtrip.{read-back}
 
 -- each item is a byte
@@ -126,6 +126,8 @@ module _ (b : List ℕ) (h : Octets b) (i : ℕ) (rs : List ℕ) where
   held-first Struct = tt
   held-first Union = held-entries 1
   held-first Dictionary = held-entries _
+  held-first Nested32 = octets-numbers 4 _
+  held-first Nested64 = octets-numbers 8 _
   held-first Unknown = tt
 
   held-second : (k : Kind) → Held (second (cells k b i rs))
@@ -142,6 +144,8 @@ module _ (b : List ℕ) (h : Octets b) (i : ℕ) (rs : List ℕ) where
   held-second Struct = tt
   held-second Union = tt
   held-second Dictionary = tt
+  held-second Nested32 = tt
+  held-second Nested64 = tt
   held-second Unknown = tt
 
 module _ {b rs : List ℕ} (x : Extracted b rs) where
@@ -176,6 +180,6 @@ module _ {b rs : List ℕ} (x : Extracted b rs) where
       record {
         accepted = back .accepted;
         bytes = λ k. octet-at octets-extract k;
-        picked = below-all (rows (extract b rs) 0);
+        picked = chosen-rows (rows (extract b rs) 0);
         short = rw (back .sameExtract) (x .short);
       }

@@ -20,7 +20,7 @@ use Rattle.format.proofs.Laws.{kept-root}
 use Rattle.format.proofs.Accepted.{or-right}
 use Rattle.format.proofs.Refusals.{passed, passed-verdict, passed-test, front}
 use Rattle.roundtrip.specs.Back.{Extracted, ReadBack, Then, allRows}
-use Rattle.roundtrip.proofs.Rows.{below-chosen, chosen-all}
+use Rattle.roundtrip.proofs.Rows.{chosen-below, chosen-all}
 use Rattle.roundtrip.proofs.Again.{facts, rows-kept, columns-again, kept-again, extract-again}
 use Rattle.roundtrip.proofs.Shape.{size-right, mark-right, table-right, fields-right, tree-right, rows-right, buffers-right}
 use Rattle.roundtrip.proofs.Content.{content-right}
@@ -46,7 +46,7 @@ read-back {b} {rs} x =
 module _ (b rs : List ℕ) (p : ℕ → Bool) (n : ℕ)
     (v : journalVerdict b ≡ 0) (rising : rs ≡ chosen p n) (below : n ≤ rows b 0) (short : length (extract b rs) ≤ packLimit) (bytes : (k : ℕ) → getD b k 0 < 256) where
   extracted : Extracted b rs
-  extracted = record { accepted = v; bytes = bytes; picked = rw rising (below-chosen p n (rows b 0) below); short = short }
+  extracted = record { accepted = v; bytes = bytes; picked = rw rising (chosen-below p n (rows b 0) below); short = short }
 
   pub extract-accepted : journalVerdict (extract b rs) ≡ 0
   extract-accepted = accepted-again extracted
@@ -69,7 +69,7 @@ call-extracted c done bytes =
       accepted = passed-verdict _ (journalVerdict (c .journal)) journal;
       bytes = bytes;
       picked =
-          below-chosen (picked (c .mask)) (maskLength (c .mask)) (rows (c .journal) 0)
+          chosen-below (picked (c .mask)) (maskLength (c .mask)) (rows (c .journal) 0)
           (ltb-false (rows (c .journal) 0) (maskLength (c .mask)) (passed-test (tooLong c) _ _ long));
       short =
           ltb-false packLimit (length (extractOf c)) (or-right (ltb (length (c .output)) (length (extractOf c))) _ (passed-test (outputShort (length (c .output)) (length (extractOf c))) _ _ room));

@@ -1,28 +1,30 @@
 -- The rows that the nodes of an accepted journal keep: how they are handed on, that there are no more of them than rows, and how runs share them. Assumes nothing.
 use Prim.Native.Nat.{ℕ, zero, suc, _+_, _-_, _≤_, _<_, min}
-use mathlib.Core.Path.{_≡_, refl, sym, ap, _∙_}
+use mathlib.Core.Path.{_≡_, refl, sym, ap, ap₂, _∙_}
 use mathlib.Core.Bool.{Bool, true, false, cond}
 use mathlib.Core.List.{List, [], _∷_, _++_, map, append-nil}
 use native.Mathlib.Decide.{decLt}
-use native.Mathlib.Nat.{add-assoc}
+use native.Mathlib.Nat.{add-assoc, zero-add, sub-zero}
 use native.Mathlib.Omega.{arith}
 use borrow.Author.Tests.{lt-ltb, le-ltb, le-leb, lt-leb, ltb-true, ltb-false}
 use lib.Dec.{ltb}
-use lib.ListN.{length, getD, length-append, List·getD-append}
+use lib.ListN.{length, getD, length-append, length-map, List·getD-append}
 use lib.Seq.{getD-at}
 use Rattle.format.specs.declared.Kind.{Kind}
 use Rattle.format.specs.declared.Kind.the-variants.{Runs}
-use Rattle.format.specs.Bytes.{table, chosen, countIf, within, sumBelow, one}
-use Rattle.format.specs.Node.{nodeCount, rows, skip, kind, parent, child, runEnd, runStart, places}
-use Rattle.format.specs.Kept.{inRun, groupSize, keptRuns, carried, passedOn, keptRows}
+use Rattle.format.specs.Bytes.{table, join, chosen, countIf, within, sumBelow, one}
+use Rattle.format.specs.Node.{nodeCount, rows, skip, kind, parent, child, runEnd, runStart, places, firstNumber}
+use Rattle.format.specs.Slots.{upTo, picksFrom, countUp}
+use Rattle.format.specs.Kept.{inRun, groupSize, keptRuns, spanSize, span, keptSpans, carried, passedOn, keptRows}
 use Rattle.format.specs.Write.{total}
-use Rattle.format.specs.Accepted.{OneChild, Shares, Carries, Inner, shared, byRuns, RunEnds, Sound}
+use Rattle.format.specs.Accepted.{OneChild, Shares, Carries, Nests, Inner, shared, byRuns, bySpans, Spans, RunEnds, Sound}
 use Rattle.format.specs.Accepted as is
-use Rattle.format.proofs.Laws.{length-table, getD-table, kept-root, kept-child, count-within}
+use Rattle.format.proofs.Laws.{length-table, join-append, kept-root, kept-child, count-within}
 use Rattle.format.proofs.Numbers.{sum-front}
-use Rattle.format.proofs.SlotLaws.{chosen-picks, count-le}
-use Rattle.roundtrip.specs.Back.{Below}
-use Rattle.roundtrip.proofs.Parts.{getD-map, total-more}
+use Rattle.format.proofs.SlotLaws.{chosen-picks, picks-upTo, picks-all, count-le, up-cat}
+use Rattle.format.proofs.SpanLaws.{kept-spans, length-span}
+use Rattle.roundtrip.specs.Back.{Below, Chosen}
+use Rattle.roundtrip.proofs.Parts.{getD-map, total-join, total-more}
 
 -- ---- chosen numbers
 
@@ -57,20 +59,28 @@ below-chosen p m n h =
       small = chosen-each (λ j. j < n) p m (λ j l t. omega arith);
     }
 
-pub below-all : (n : ℕ) → Below n (table (λ k. k) n)
-below-all n =
-    record {
-      few = rw (length-table {A = ℕ}) (omega arith);
-      small = λ k l. let m : k < n = rw (length-table (λ (k : ℕ). k) n) at l in rw (getD-table (λ k. k) n k 0 m) m;
-    }
+-- rows that a test chooses are such numbers; so are all rows, none, and those that a test chooses below a smaller number
+pub below-of : {n : ℕ} {rs : List ℕ} → Chosen n rs → Below n rs
+below-of {n} c = rw (c .are) (below-chosen (c .test) n n (omega arith))
 
-below-none : (n : ℕ) → Below n []
-below-none n = record { few = omega arith; small = λ k l. absurd (omega arith) }
+pub chosen-below : (p : ℕ → Bool) (m n : ℕ) → m ≤ n → Chosen n (chosen p m)
+chosen-below p m n h =
+    record { test = upTo p m; are = chosen-picks p m ∙ sym (chosen-picks (upTo p m) n ∙ picks-upTo p m n 0 (omega arith) (omega arith) ∙ ap (λ (k : ℕ). picksFrom p k 0) (sub-zero m)) }
 
-pub below-carried : (rs : List ℕ) (n : ℕ) → Below n (carried rs n)
+pub chosen-rows : (n : ℕ) → Chosen n (table (λ k. k) n)
+chosen-rows n = record { test = λ k. true; are = sym (chosen-all (λ k. true) n (λ k l. refl)) }
+
+chosen-none : (n : ℕ) → Chosen n []
+unfolding chosen
+chosen-none n = chosen-below (λ k. true) 0 n (omega arith)
+
+chosen-carried : (rs : List ℕ) (n : ℕ) → Chosen n (carried rs n)
 unfolding carried
-below-carried [] n = below-none n
-below-carried (r ∷ rs) n = below-all n
+chosen-carried [] n = chosen-none n
+chosen-carried (r ∷ rs) n = chosen-rows n
+
+chosen-spans : (w : ℕ) (b : List ℕ) (i : ℕ) (rs : List ℕ) → Spans w b i → Chosen (rows b i) rs → Chosen (rows b (child i)) (keptSpans w b i rs)
+chosen-spans w b i rs s c = record { test = _; are = ap (keptSpans w b i) (c .are) ∙ kept-spans w b i (c .test) s }
 
 -- ---- what a node hands on, by its kind
 
@@ -86,6 +96,11 @@ module _ (b : List ℕ) (p i : ℕ) (rs : List ℕ) where
   passed-carried _ is.Carries.lists32 = refl
   passed-carried _ is.Carries.lists64 = refl
   passed-carried _ is.Carries.dictionary = refl
+
+  passed-nested : (w : ℕ) (k : Kind) → Nests w k → passedOn k b p i rs ≡ keptSpans w b p rs
+  unfolding passedOn
+  passed-nested _ _ is.Nests.nested32 = refl
+  passed-nested _ _ is.Nests.nested64 = refl
 
   passed-runs : (k : Kind) → k ≡ Runs → passedOn k b p i rs ≡ keptRuns b p rs
   unfolding passedOn
@@ -103,32 +118,46 @@ module _ (b root : List ℕ) where
     pub kept-carried : Carries (kind b (parent b i)) → keptRows b root i ≡ carried (keptRows b root (parent b i)) (rows b i)
     kept-carried s = parent-of i h ∙ passed-carried b (parent b i) i (keptRows b root (parent b i)) _ s
 
+    pub kept-nested : (w : ℕ) → Nests w (kind b (parent b i)) → keptRows b root i ≡ keptSpans w b (parent b i) (keptRows b root (parent b i))
+    kept-nested w s = parent-of i h ∙ passed-nested b (parent b i) i (keptRows b root (parent b i)) w _ s
+
     pub kept-runs : kind b (parent b i) ≡ Runs → keptRows b root i ≡ keptRuns b (parent b i) (keptRows b root (parent b i))
     kept-runs s = parent-of i h ∙ passed-runs b (parent b i) i (keptRows b root (parent b i)) _ s
 
 -- ---- the kept rows of each node of a sound journal
 
-module _ (b root : List ℕ) (s : Sound b) (picked : Below (rows b 0) root) where
-  only-run : (k : Kind) → k ≡ Runs → OneChild k
-  only-run k e = rw e is.OneChild.runs
+pub only-run : (k : Kind) → k ≡ Runs → OneChild k
+only-run k e = rw e is.OneChild.runs
 
-  below-child : (i : ℕ) → 0 < i → i < nodeCount b → Inner (kind b (parent b i)) → Below (rows b (parent b i)) (keptRows b root (parent b i)) → Below (rows b i) (keptRows b root i)
+pub only-nested : (w : ℕ) (k : Kind) → Nests w k → OneChild k
+only-nested _ _ is.Nests.nested32 = is.OneChild.nested32
+only-nested _ _ is.Nests.nested64 = is.OneChild.nested64
+
+module _ (b root : List ℕ) (s : Sound b) (picked : Chosen (rows b 0) root) where
+  chosen-child : (i : ℕ) → 0 < i → i < nodeCount b → Inner (kind b (parent b i)) → Chosen (rows b (parent b i)) (keptRows b root (parent b i)) → Chosen (rows b i) (keptRows b root i)
   unfolding keptRuns
-  below-child i h l (shared q) ih = rw (kept-shared b root i h q, s .agree .same i h l q) ih
-  below-child i h l (byRuns q) ih =
+  chosen-child i h l (shared q) ih = rw (kept-shared b root i h q, s .agree .same i h l q) ih
+  chosen-child i h l (byRuns q) ih =
       let e : child (parent b i) ≡ i = sym (s .shape .only i h l (only-run (kind b (parent b i)) q)) in
-      rw (kept-runs b root i h q, e) (below-chosen _ (rows b i) (rows b i) (omega arith))
-  below-child i h l (is.Inner.carried q) ih = rw (kept-carried b root i h q) (below-carried _ _)
+      rw (kept-runs b root i h q, e) (chosen-below _ (rows b i) (rows b i) (omega arith))
+  chosen-child i h l (is.Inner.carried q) ih = rw (kept-carried b root i h q) (chosen-carried _ _)
+  chosen-child i h l (bySpans w q) ih =
+      let e : child (parent b i) ≡ i = sym (s .shape .only i h l (only-nested w (kind b (parent b i)) q)) in
+      let up : parent b i < nodeCount b = omega (arith, s .shape .above i h) in
+      rw (kept-nested b root i h w q) (rw e at (chosen-spans w b (parent b i) (keptRows b root (parent b i)) (s .spans w (parent b i) up q) ih))
 
-  below-up : (n i : ℕ) → i < n → i < nodeCount b → Below (rows b i) (keptRows b root i)
-  below-up zero i h l = absurd (omega arith)
-  below-up (suc n) zero h l = rw (kept-root b root) picked
-  below-up (suc n) (suc i) h l =
+  chosen-up : (n i : ℕ) → i < n → i < nodeCount b → Chosen (rows b i) (keptRows b root i)
+  chosen-up zero i h l = absurd (omega arith)
+  chosen-up (suc n) zero h l = rw (kept-root b root) picked
+  chosen-up (suc n) (suc i) h l =
       let m = s .shape .above (suc i) (omega arith) in
-      below-child (suc i) (omega arith) l (s .shape .inner (suc i) (omega arith) l) (below-up n (parent b (suc i)) (omega arith) (omega arith))
+      chosen-child (suc i) (omega arith) l (s .shape .inner (suc i) (omega arith) l) (chosen-up n (parent b (suc i)) (omega arith) (omega arith))
+
+  pub kept-chosen : (i : ℕ) → i < nodeCount b → Chosen (rows b i) (keptRows b root i)
+  kept-chosen i l = chosen-up (suc i) i (omega arith) l
 
   pub kept-below : (i : ℕ) → i < nodeCount b → Below (rows b i) (keptRows b root i)
-  kept-below i l = below-up (suc i) i (omega arith) l
+  kept-below i l = below-of (kept-chosen i l)
 
 -- ---- how runs share the rows
 
@@ -221,3 +250,41 @@ between sizes j n h =
     let c = count-within (λ k. true) 0 (total sizes j) (total sizes (suc j)) (omega (arith, total-more sizes j)) n in
     rw (← chosen-all (λ k. true) n (λ k l. refl))
     (omega (arith, c, all (min (total sizes j - 0) n), all (min (total sizes (suc j) - 0) n), total-more sizes j))
+
+-- ---- how many child rows lists have
+
+-- all numbers below n, counted up
+pub rows-up : (n : ℕ) → table (λ k. k) n ≡ countUp n 0
+rows-up n = sym (chosen-all (λ k. true) n (λ k l. refl)) ∙ chosen-picks (λ k. true) n ∙ picks-all (λ k. true) n 0 (record { at = λ j a l. refl })
+
+sizes-of : (w : ℕ) (b : List ℕ) (i : ℕ) (rs : List ℕ) → map length (map (span w b i) rs) ≡ map (spanSize w b i) rs
+sizes-of w b i [] = refl
+sizes-of w b i (r ∷ rs) = rw (length-span w b i r, sizes-of w b i rs)
+
+pub count-spans : (w : ℕ) (b : List ℕ) (i : ℕ) (rs : List ℕ) → length (keptSpans w b i rs) ≡ total (map (spanSize w b i) rs) (length rs)
+unfolding keptSpans
+count-spans w b i rs =
+    sym (total-join (map (span w b i) rs)) ∙ ap (λ (xs : List ℕ). total xs (length (map (span w b i) rs))) (sizes-of w b i rs)
+    ∙ ap (total (map (spanSize w b i) rs)) (length-map rs (span w b i))
+
+span-as : (w : ℕ) (b : List ℕ) (i r : ℕ) {n at : ℕ} → spanSize w b i r ≡ n → firstNumber w b i r ≡ at → span w b i r ≡ countUp n at
+unfolding span
+span-as w b i r p q = ap₂ countUp p q
+
+map-rows-snoc : {A : Type 0} (f : ℕ → A) (xs : List ℕ) (x : ℕ) → map f (xs ++ (x ∷ [])) ≡ map f xs ++ (f x ∷ [])
+map-rows-snoc f [] x = refl
+map-rows-snoc f (y ∷ xs) x = ap (f y ∷_) (map-rows-snoc f xs x)
+
+-- rows whose child rows follow one another from 0 on have all of them
+pub spans-follow : (w : ℕ) (b : List ℕ) (i : ℕ) (sizes : List ℕ) (n : ℕ)
+    → ((r : ℕ) → r < n → spanSize w b i r ≡ getD sizes r 0) → ((r : ℕ) → r < n → firstNumber w b i r ≡ total sizes r)
+    → keptSpans w b i (table (λ k. k) n) ≡ table (λ k. k) (total sizes n)
+unfolding keptSpans table total sumBelow join
+spans-follow w b i sizes zero f g = refl
+spans-follow w b i sizes (suc n) f g =
+    rw (map-rows-snoc (span w b i) (table (λ k. k) n) n, join-append)
+    (ap₂ _++_ (spans-follow w b i sizes n (λ r l. f r (omega arith)) (λ r l. g r (omega arith)) ∙ rows-up (total sizes n)) (append-nil (span w b i n) ∙ here)
+    ∙ sym (rows-up (total sizes n + getD sizes n 0) ∙ up-cat (total sizes n) (getD sizes n 0) 0 ∙ ap (λ (k : ℕ). countUp (total sizes n) 0 ++ countUp (getD sizes n 0) k) (zero-add (total sizes n))))
+  where
+    here : span w b i n ≡ countUp (getD sizes n 0) (total sizes n)
+    here = span-as w b i n (f n (omega arith)) (g n (omega arith))

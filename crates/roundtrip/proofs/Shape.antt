@@ -8,12 +8,12 @@ use borrow.Author.Tests.{le-ltb, eq-eqb, eqb-true}
 use lib.Dec.{eqb, ltb}
 use lib.ListN.{length, length-map}
 use Rattle.format.specs.declared.Kind.{Kind}
-use Rattle.format.specs.declared.Kind.the-variants.{Bits, Native, Fixed, Bytes32, Bytes64, Views, Lists32, Lists64, Runs, Struct, Union, Dictionary, Unknown}
+use Rattle.format.specs.declared.Kind.the-variants.{Bits, Native, Fixed, Bytes32, Bytes64, Views, Lists32, Lists64, Runs, Struct, Union, Dictionary, Nested32, Nested64, Unknown}
 use Rattle.format.specs.Bytes.{anyBelow, bytesFor, bitAt, join, packed}
 use Rattle.format.specs.Node.{tableStart, nodeCount, rootRows, markOf, mark, kindNumber, kindOf, kind, ofKind, param, rows, skip, validityAt, firstAt, secondAt, secondLength, lastField, noBitmap, hasNoBitmap, valid, places, child}
 use Rattle.format.specs.Node.{ancestors, parent, depth}
 use Rattle.format.specs.Verdict.{packLimit, wrongSize, wrongMark, wrongTable, wrongFields, wrongTree, wrongRows, wrongBuffers, badFields, layout, misused, notClosed, empty, badDataBuffer, badChildRows, badBuffers, firstSize, secondSize}
-use Rattle.format.specs.Kept.{columns, cells, keptPart, keptRows, firstEntry, secondEntry, ownBytes}
+use Rattle.format.specs.Kept.{columns, cells, keptPart, keptRows, firstEntry, secondEntry, ownBytes, spanSize}
 use Rattle.format.specs.Write.{absent, holds, anyNull, bitmap, first, second, dataLength, total, numbers, offsets, ends, extract}
 use Rattle.format.specs.Accepted.{Shares}
 use Rattle.format.specs.Accepted as is
@@ -125,6 +125,8 @@ module _ {b rs : List ℕ} (x : Extracted b rs) where
     first-used Struct q = zero-unused (firstAt e i) (first-zero q)
     first-used Union q = refl
     first-used Dictionary q = refl
+    first-used Nested32 q = refl
+    first-used Nested64 q = refl
     first-used Unknown q = refl
 
     second-zero : (k : Kind) → kind b i ≡ k → second (cells k b i kept) ≡ absent → secondAt e i ≡ 0
@@ -145,6 +147,8 @@ module _ {b rs : List ℕ} (x : Extracted b rs) where
     second-used Struct q = zero-unused (secondAt e i) (second-zero Struct q refl)
     second-used Union q = zero-unused (secondAt e i) (second-zero Union q refl)
     second-used Dictionary q = zero-unused (secondAt e i) (second-zero Dictionary q refl)
+    second-used Nested32 q = zero-unused (secondAt e i) (second-zero Nested32 q refl)
+    second-used Nested64 q = zero-unused (secondAt e i) (second-zero Nested64 q refl)
     second-used Unknown q = refl
 
     pub length-is : (k : Kind) → kind b i ≡ k → secondLength e i ≡ dataLength (cells k b i kept)
@@ -165,6 +169,8 @@ module _ {b rs : List ℕ} (x : Extracted b rs) where
     length-used Struct q = zero-unused (secondLength e i) (length-is Struct q)
     length-used Union q = zero-unused (secondLength e i) (length-is Union q)
     length-used Dictionary q = zero-unused (secondLength e i) (length-is Dictionary q)
+    length-used Nested32 q = zero-unused (secondLength e i) (length-is Nested32 q)
+    length-used Nested64 q = zero-unused (secondLength e i) (length-is Nested64 q)
     length-used Unknown q = refl
 
     bitmap-used : (t : Bool) → layout (kind b i) .bitmap ≡ t → (t || hasNoBitmap e i) ≡ true
@@ -313,15 +319,23 @@ module _ {b rs : List ℕ} (x : Extracted b rs) where
           ∙ ap (w *_) (length-map (keptRows b rs i) (secondEntry w b i) ∙ sym (places-kept i l)) in
           omega (arith, n, second-ends _ h)
 
-      offsets-inside : (w : ℕ) → first (cells k b i (keptRows b rs i)) ≡ holds (numbers w (offsets (map length (map (ownBytes w b i) (keptRows b rs i)))))
+      -- offsets, one more than rows
+      offsets-end : (w : ℕ) (sizes : List ℕ) → first (cells k b i (keptRows b rs i)) ≡ holds (numbers w (offsets sizes)) → length sizes ≡ length (keptRows b rs i)
           → firstAt e i + w * suc (places e i) ≤ tableStart e
       unfolding offsets
-      offsets-inside w h =
-          let ts : List (List ℕ) = map (ownBytes w b i) (keptRows b rs i) in
-          let n : length (numbers w (offsets (map length ts))) ≡ w * suc (places e i) =
-          length-numbers w (offsets (map length ts))
-          ∙ ap (w *_) (length-table (total (map length ts)) (suc (length (map length ts))) ∙ ap suc (length-map ts length ∙ length-map (keptRows b rs i) (ownBytes w b i) ∙ sym (places-kept i l))) in
+      offsets-end w sizes h q =
+          let n : length (numbers w (offsets sizes)) ≡ w * suc (places e i) =
+          length-numbers w (offsets sizes) ∙ ap (w *_) (length-table (total sizes) (suc (length sizes)) ∙ ap suc (q ∙ sym (places-kept i l))) in
           omega (arith, n, first-ends _ h)
+
+      offsets-inside : (w : ℕ) → first (cells k b i (keptRows b rs i)) ≡ holds (numbers w (offsets (map length (map (ownBytes w b i) (keptRows b rs i)))))
+          → firstAt e i + w * suc (places e i) ≤ tableStart e
+      offsets-inside w h =
+          offsets-end w _ h (length-map (map (ownBytes w b i) (keptRows b rs i)) length ∙ length-map (keptRows b rs i) (ownBytes w b i))
+
+      spans-inside : (w : ℕ) → first (cells k b i (keptRows b rs i)) ≡ holds (numbers w (offsets (map (spanSize w b i) (keptRows b rs i))))
+          → firstAt e i + w * suc (places e i) ≤ tableStart e
+      spans-inside w h = offsets-end w _ h (length-map (keptRows b rs i) (spanSize w b i))
 
     bits-inside : (q : kind b i ≡ Bits) → firstAt e i + bytesFor (places e i) ≤ tableStart e
     unfolding cells first
@@ -352,6 +366,8 @@ module _ {b rs : List ℕ} (x : Extracted b rs) where
     first-inside Struct q = omega (arith, first-zero i l q)
     first-inside Union q = omega (arith, entries-inside Union q 1 (omega (arith, first-fits x i l Union q)) refl)
     first-inside Dictionary q = entries-inside Dictionary q (param b i) (first-fits x i l Dictionary q) refl
+    first-inside Nested32 q = spans-inside Nested32 q 4 refl
+    first-inside Nested64 q = spans-inside Nested64 q 8 refl
     first-inside Unknown q = absurd (facts x .fields i l .known q)
 
     second-inside : (k : Kind) → kind b i ≡ k → secondAt e i + secondSize k (places e i) (secondLength e i) ≤ tableStart e
@@ -368,6 +384,8 @@ module _ {b rs : List ℕ} (x : Extracted b rs) where
     second-inside Struct q = omega (arith, second-zero i l Struct q refl)
     second-inside Union q = omega (arith, second-zero i l Union q refl)
     second-inside Dictionary q = omega (arith, second-zero i l Dictionary q refl)
+    second-inside Nested32 q = omega (arith, second-zero i l Nested32 q refl)
+    second-inside Nested64 q = omega (arith, second-zero i l Nested64 q refl)
     second-inside Unknown q = absurd (facts x .fields i l .known q)
 
     node-buffers : badBuffers e i ≡ false

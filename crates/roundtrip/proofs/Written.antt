@@ -11,7 +11,7 @@ use lib.ListN.{length, getD, length-append}
 use Rattle.format.specs.Bytes.{table, join, le, bytesAt, raised, padded, packed}
 use Rattle.format.specs.Node.{tableStart, nodeCount, rootRows, markOf, mark, noBitmap, field, kindNumber, param, rows, skip, kids, validityAt, firstAt, secondAt, secondLength, lastField, hasNoBitmap, valid}
 use Rattle.format.specs.Verdict.{packLimit}
-use Rattle.format.specs.Kept.{Column, KeptNode, Cells, flags, entries, texts, ranges, groups, nothing}
+use Rattle.format.specs.Kept.{Column, KeptNode, Cells, flags, entries, texts, ranges, groups, spans, nothing}
 use Rattle.format.specs.Write.{Buffer, absent, holds, numbers, with, place, addNode, written, write, anyNull, bitmap, first, second, dataLength}
 use Rattle.format.proofs.Laws.{join-append, length-table, getD-table}
 use Rattle.format.proofs.Measure.{length-padded, length-nodes, length-write, length-packed, length-numbers}
@@ -74,6 +74,7 @@ dataLength-lt body (entries es) = omega arith
 dataLength-lt body (texts w ts) = omega (arith, length-append (padded body) (join ts))
 dataLength-lt body (ranges os ss) = omega arith
 dataLength-lt body (groups w sizes) = omega arith
+dataLength-lt body (spans w sizes) = omega arith
 dataLength-lt body nothing = omega arith
 
 -- where no row is null, each is valid

@@ -93,7 +93,7 @@ pub fn count_kept(sel: Selection, s: &[u8], b: Bits, lo: usize, hi: usize) -> us
 }
 
 // The number of 2, 4 or 8 bytes at a place: a run end of any width.
-fn number(s: &[u8], at: usize, width: usize) -> u64
+pub fn number(s: &[u8], at: usize, width: usize) -> u64
     requires { ⌜ oneOf (2 ∷ 4 ∷ 8 ∷ []) width ≡ true ⌝ }
     requires { ⌜ at + width ≤ length (now s) ⌝ }
     ensures { λ r. ⌜ r ≡ le width (now (s .entry)) at ⌝ }

@@ -1,50 +1,20 @@
 -- Scratch that is as long as is needed: what the writer is given once it is filled, and zeros once it is cleared. Assumes nothing.
-use Prim.Native.Nat.{ℕ, zero, suc, _*_, _^_, _≤_, _<_}
-use mathlib.Core.Bool.{Bool, true, false, cond}
+use Prim.Native.Nat.{ℕ}
 use mathlib.Core.List.{List, append-nil}
-use mathlib.Core.Path.{_≡_, refl, _∙_}
-use native.Mathlib.Omega.{arith}
-use borrow.Author.Tests.{eqb-true}
+use mathlib.Core.Path.{_≡_, _∙_}
 use lib.ListN.{length, replicate, length-replicate}
 use lib.Seq.{drop-length}
-use Rattle.format.specs.declared.Kind.the-variants.{Runs}
-use Rattle.format.specs.Bytes.{bytesFor, sumBelow, over}
-use Rattle.format.specs.Node.{nodeCount, rows, ofKind, kind, child}
+use Rattle.format.specs.Bytes.{over}
+use Rattle.format.specs.Node.{nodeCount}
 use Rattle.format.specs.Answer.{scratchNeeded}
-use Rattle.format.specs.Accepted.{Sound}
-use Rattle.format.specs.Accepted as is
 use Rattle.format.proofs.Put.{same-size}
 use Rattle.slots.specs.declared.Bits.{Bits}
 use Rattle.slots.specs.Source.{Lies}
 use Rattle.predicate.specs.declared.Selection.{Selection}
 use Rattle.nesting.specs.Rows.{picksOf, Ready}
-use Rattle.nesting.proofs.ByKind.{of-runs, rows-small}
-use Rattle.nesting.proofs.Scratch.{share, bytes-few}
 use Rattle.fill.specs.Scratch.{Filled}
+use Rattle.fill.proofs.Filling.{scratch-few}
 use Rattle.regions.specs.Region.{Selects, Given}
-
--- ---- the scratch needed is not much
-
-module _ {b : List ℕ} (s : Sound b) where
-  share-few : (k : ℕ) → k < nodeCount b → share b k ≤ 1_048_576
-  unfolding ofKind
-  share-few k h = go (ofKind 9 b k) refl
-    where
-      runs : ofKind 9 b k ≡ true → kind b k ≡ Runs
-      runs e = of-runs b k (eqb-true _ _ e)
-
-      go : (t : Bool) → ofKind 9 b k ≡ t → cond t (bytesFor (rows b (child k))) 0 ≤ 1_048_576
-      go true e = bytes-few _ (rows-small s (child k) (s .shape .next k h (rw (runs e) is.OneChild.runs)))
-      go false e = omega arith
-
-  shares-few : (n : ℕ) → n ≤ nodeCount b → sumBelow (share b) n ≤ n * 1_048_576
-  unfolding sumBelow
-  shares-few zero h = omega arith
-  shares-few (suc n) h = omega (arith, shares-few n (omega arith), share-few n (omega arith))
-
-  pub scratch-few : scratchNeeded b < 2 ^ 60
-  unfolding scratchNeeded
-  scratch-few = omega (arith, shares-few (nodeCount b) (omega arith), s .shape .few)
 
 -- ---- filled and cleared
 

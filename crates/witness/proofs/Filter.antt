@@ -47,23 +47,24 @@ ran m j states stated asked list scratch output =
       ensures = record { answered = refl; written = refl; listed = refl; cleared = refl };
     }
 
--- ---- no count stated, and another number in its place: a struct of native, texts, runs, a dictionary and bits (format/proofs/Cases.antt)
+-- ---- no count stated, and another number in its place: a struct of native, texts, runs, a dictionary, bits and lists (format/proofs/Cases.antt)
 
 unstated : Filtered
-unstated = ran (maskOf 5 0x09) tightJournal false 7 false [] (9 ∷ []) (replicate 416 7)
+unstated = ran (maskOf 5 0x09) tightJournal false 7 false [] (9 ∷ 9 ∷ []) (replicate 528 7)
 
 unstated′ : Filtered
-unstated′ = ran (pack (0x7F ∷ 0xD2 ∷ []) (node 1 0 5 1 0 1 0 ∷ []) 5) looseJournal false 0 true (1 ∷ 2 ∷ 3 ∷ []) (8 ∷ 8 ∷ []) (replicate 416 7)
+unstated′ = ran (pack (0x7F ∷ 0xD2 ∷ []) (node 1 0 5 1 0 1 0 ∷ []) 5) looseJournal false 0 true (1 ∷ 2 ∷ 3 ∷ []) (8 ∷ 8 ∷ 8 ∷ []) (replicate 528 7)
 
 unstated-alike : Same (seen unstated) (seen unstated′)
 unfolding unstated unstated′ one-way other-way call
 unstated-alike = demand3 unstated unstated′ premises-hold
 
-unstated-succeeds : unstated .answer ≡ Done 2 5 Indices 408
+unstated-succeeds : unstated .answer ≡ Done 2 5 Indices 520
 unfolding unstated one-way call
 unstated-succeeds = premises-succeed
 
--- ---- a union of fixed entries, texts with offsets of 64 bits, views, and list views of 32 and of 64 bits; rows 0 and 2 are kept, and row 2 of the last is null
+-- ---- a union of fixed entries, texts with offsets of 64 bits, views, list views of 32 and of 64 bits, and lists with offsets of 64 bits; rows 0 and 2 are kept, and row 2
+-- of the list views of 64 bits is null
 
 fghijklmn : List ℕ
 fghijklmn = 0x66 ∷ 0x67 ∷ 0x68 ∷ 0x69 ∷ 0x6A ∷ 0x6B ∷ 0x6C ∷ 0x6D ∷ 0x6E ∷ []
@@ -84,12 +85,14 @@ tight =
     ∷ numbers 8 (1 ∷ 0 ∷ 0 ∷ [])
     ∷ numbers 8 (1 ∷ 0 ∷ 0 ∷ [])
     ∷ numbers 4 (7 ∷ 8 ∷ [])
+    ∷ numbers 8 (0 ∷ 2 ∷ 2 ∷ 3 ∷ [])
+    ∷ numbers 2 (40 ∷ 41 ∷ 42 ∷ [])
     ∷ []
 
 tightUnion : List ℕ
 tightUnion =
     pack (pieces tight)
-    (node 11 0 3 0 5 noBitmap (place 0 tight)
+    (node 11 0 3 0 6 noBitmap (place 0 tight)
     ∷ node 3 3 3 0 0 noBitmap (place 1 tight)
     ∷ (5 ∷ 0 ∷ 3 ∷ 0 ∷ 0 ∷ noBitmap ∷ place 2 tight ∷ place 3 tight ∷ 5 ∷ 0 ∷ [])
     ∷ node 6 0 3 0 1 noBitmap (place 4 tight)
@@ -98,11 +101,13 @@ tightUnion =
     ∷ node 2 2 3 0 0 noBitmap (place 8 tight)
     ∷ (8 ∷ 0 ∷ 3 ∷ 0 ∷ 1 ∷ place 9 tight ∷ place 10 tight ∷ place 11 tight ∷ 0 ∷ 0 ∷ [])
     ∷ node 2 4 2 0 0 noBitmap (place 12 tight)
+    ∷ node 14 0 3 0 1 noBitmap (place 13 tight)
+    ∷ node 2 2 3 0 0 noBitmap (place 14 tight)
     ∷ [])
     3
 
--- four rows, skips, bitmaps in which no kept row is null but that one, other ids, entries, texts, views and ranges in the dropped rows, bytes that no
--- kept row has, a wild id and wild ranges before skip, spare bits set, a buffer that nothing uses
+-- four rows, skips, bitmaps in which no kept row is null but that one, other ids, entries, texts, views, ranges and lists in the dropped rows, bytes and child
+-- rows that no kept row has, a wild id and wild ranges before skip, spare bits set, a buffer that nothing uses
 loose : List (List ℕ)
 loose =
     (0xAA ∷ 0xAA ∷ [])
@@ -121,12 +126,14 @@ loose =
     ∷ numbers 8 (99 ∷ 1 ∷ 0 ∷ 0 ∷ 1 ∷ [])
     ∷ numbers 4 (7 ∷ 8 ∷ [])
     ∷ (0x03 ∷ [])
+    ∷ numbers 2 (60 ∷ 40 ∷ 41 ∷ 61 ∷ 42 ∷ 62 ∷ [])
+    ∷ numbers 8 (99 ∷ 1 ∷ 3 ∷ 4 ∷ 5 ∷ 5 ∷ [])
     ∷ []
 
 looseUnion : List ℕ
 looseUnion =
     pack (pieces loose)
-    (node 11 0 4 1 5 noBitmap (place 1 loose)
+    (node 11 0 4 1 6 noBitmap (place 1 loose)
     ∷ node 3 3 4 0 0 (place 3 loose) (place 2 loose)
     ∷ (5 ∷ 0 ∷ 4 ∷ 1 ∷ 0 ∷ noBitmap ∷ place 4 loose ∷ place 5 loose ∷ 12 ∷ 0 ∷ [])
     ∷ node 6 0 4 2 1 noBitmap (place 6 loose)
@@ -135,6 +142,8 @@ looseUnion =
     ∷ node 2 2 3 1 0 noBitmap (place 10 loose)
     ∷ (8 ∷ 0 ∷ 4 ∷ 1 ∷ 1 ∷ place 11 loose ∷ place 12 loose ∷ place 13 loose ∷ 0 ∷ 0 ∷ [])
     ∷ node 2 4 2 0 0 (place 15 loose) (place 14 loose)
+    ∷ node 14 0 4 1 1 noBitmap (place 17 loose)
+    ∷ node 2 2 6 0 0 noBitmap (place 16 loose)
     ∷ [])
     4
 
@@ -195,17 +204,17 @@ two-entries : length (entries nullMask) ≡ 2
 unfolding Bytes.opened Node.opened Masks.opened Write.opened pack node nullMask
 two-entries = refl
 
-tight-scratch : scratchNeeded tightUnion ≡ 0
+tight-scratch : scratchNeeded tightUnion ≡ 1
 unfolding Bytes.opened Node.opened Write.opened Answers.opened pack node abcde pieces place fghijklmn tight tightUnion
 tight-scratch = refl
 
-loose-scratch : scratchNeeded looseUnion ≡ 0
+loose-scratch : scratchNeeded looseUnion ≡ 1
 unfolding Bytes.opened Node.opened Write.opened Answers.opened pack node abcde pieces place fghijklmn loose looseUnion
 loose-scratch = refl
 
 -- whatever count is stated and whatever the outputs are, if both calls have the same
 alike : (states : Bool) (stated : ℕ) (output : List ℕ)
-    → Alike (callOf plainMask tightUnion (statedIf states stated) false [] [] output) (callOf nullMask looseUnion (statedIf states stated) true (1 ∷ 2 ∷ 3 ∷ []) (8 ∷ []) output)
+    → Alike (callOf plainMask tightUnion (statedIf states stated) false [] (9 ∷ []) output) (callOf nullMask looseUnion (statedIf states stated) true (1 ∷ 2 ∷ 3 ∷ []) (8 ∷ []) output)
 unfolding listShort scratchShort
 alike states stated output =
     record {
@@ -230,30 +239,30 @@ alike states stated output =
 -- ---- a count stated, and right
 
 counted : Filtered
-counted = ran plainMask tightUnion true 2 false [] [] (replicate 544 7)
+counted = ran plainMask tightUnion true 2 false [] (9 ∷ []) (replicate 656 7)
 
 counted′ : Filtered
-counted′ = ran nullMask looseUnion true 2 true (1 ∷ 2 ∷ 3 ∷ []) (8 ∷ []) (replicate 544 7)
+counted′ = ran nullMask looseUnion true 2 true (1 ∷ 2 ∷ 3 ∷ []) (8 ∷ []) (replicate 656 7)
 
 counted-alike : Same (seen counted) (seen counted′)
 unfolding counted counted′
-counted-alike = demand3 counted counted′ (alike true 2 (replicate 544 7))
+counted-alike = demand3 counted counted′ (alike true 2 (replicate 656 7))
 
-counted-succeeds : counted .answer ≡ Done 2 3 Indices 544
+counted-succeeds : counted .answer ≡ Done 2 3 Indices 656
 unfolding Bytes.opened Node.opened Verdict.opened Masks.opened Kept.opened Write.opened Refusals.opened Answers.opened pack node maskOf abcde pieces place fghijklmn tight tightUnion plainMask counted
 counted-succeeds = refl
 
 -- ---- one byte of output too few
 
 short : Filtered
-short = ran plainMask tightUnion false 5 false [] [] (replicate 543 7)
+short = ran plainMask tightUnion false 5 false [] (9 ∷ []) (replicate 655 7)
 
 short′ : Filtered
-short′ = ran nullMask looseUnion false 6 true (1 ∷ 2 ∷ 3 ∷ []) (8 ∷ []) (replicate 543 7)
+short′ = ran nullMask looseUnion false 6 true (1 ∷ 2 ∷ 3 ∷ []) (8 ∷ []) (replicate 655 7)
 
 short-alike : Same (seen short) (seen short′)
 unfolding short short′
-short-alike = demand3 short short′ (alike false 0 (replicate 543 7))
+short-alike = demand3 short short′ (alike false 0 (replicate 655 7))
 
 short-refused : short .answer ≡ Refused 14 Journal
 unfolding Bytes.opened Node.opened Verdict.opened Masks.opened Kept.opened Write.opened Refusals.opened Answers.opened pack node maskOf abcde pieces place fghijklmn tight tightUnion plainMask short

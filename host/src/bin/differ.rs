@@ -84,12 +84,53 @@ fn rng(seed: u64, case: u64) -> Rng {
     Rng::new((seed << 40).wrapping_add(case))
 }
 
+/// Journals with lists: any; lists below lists; a kept row that is null and has child rows; child rows that no row has.
+#[derive(Default)]
+struct Lists([u64; 4]);
+
+impl Lists {
+    /// Two accepted packs.
+    fn add(&mut self, mask: &[u8], journal: &[u8]) {
+        let (picks, journal) = (Picks::of(mask), Pack::read(journal).unwrap());
+        if picks.slots > journal.nodes[0].rows as usize {
+            return;
+        }
+        let kept = model::kept_rows(&journal, &picks.picked);
+        let lists: Vec<usize> = (0..journal.nodes.len()).filter(|i| journal.nodes[*i].is_list()).collect();
+        let offset = |i: usize, row: usize| journal.first(i, journal.nodes[i].skip as usize + row);
+        let below = |i: &usize| {
+            let mut above = std::iter::successors(journal.parents[*i], |p| journal.parents[*p]);
+            above.any(|p| journal.nodes[p].is_list())
+        };
+        let junk = |i: usize, row: usize| !journal.valid(i, row) && offset(i, row) < offset(i, row + 1);
+        let spare = |i: &usize| {
+            let end = offset(*i, journal.nodes[*i].rows as usize);
+            offset(*i, 0) > 0 || end < journal.nodes[i + 1].rows as u64
+        };
+        let met = [
+            !lists.is_empty(),
+            lists.iter().any(below),
+            lists.iter().any(|i| kept[*i].iter().any(|row| junk(*i, *row))),
+            lists.iter().any(spare),
+        ];
+        self.0.iter_mut().zip(met).for_each(|(count, met)| *count += met as u64);
+    }
+
+    fn report(&self) {
+        let [any, below, junk, spare] = self.0;
+        println!(
+            "with lists: {any}; lists below lists: {below}; kept null lists with child rows: {junk}; child rows of no list: {spare}"
+        );
+    }
+}
+
 /// What random cases have covered.
 #[derive(Default)]
 struct Cover {
     compared: u64,
+    lists: Lists,
     routes: [u64; 4],
-    kinds: [u64; 13],
+    kinds: [u64; KINDS + 1],
     verdicts: [u64; 10],
     answers: [u64; 15],
 }
@@ -123,6 +164,7 @@ fn random(seed: u64, count: u64) -> Tally {
         };
         if tally.case(&name, &[&mask, &journal], agrees) == Some(true) {
             cover.compared += 1;
+            cover.lists.add(&mask, &journal);
             cover.routes[Picks::of(&mask).route() as usize] += 1;
             Pack::read(&journal).unwrap().nodes.iter().for_each(|n| cover.kinds[n.kind as usize] += 1);
         }
@@ -136,6 +178,7 @@ fn random(seed: u64, count: u64) -> Tally {
     }
     println!("compared with filter.rs: {}; by route none, all, slices, indices: {:?}", cover.compared, cover.routes);
     println!("nodes compared, by kind: {:?}", &cover.kinds[1..]);
+    cover.lists.report();
     println!("verdicts on both packs, 0 to 9: {:?}; the port's answers, 0 to 14: {:?}", cover.verdicts, cover.answers);
     tally.report(&format!("random, seed {seed}"));
     tally
@@ -146,11 +189,13 @@ fn alike(seed: u64, count: u64) -> Tally {
     let mut tally = Tally::default();
     let port = port();
     let mut different = 0;
+    let mut lists = Lists::default();
     for i in 0..count {
         let mut r = rng(seed, i);
         let name = format!("alike {seed} pair {i}");
         let pair = pair(&mut r);
         different += (pair.journals[0] != pair.journals[1]) as u64;
+        pair.masks.iter().zip(&pair.journals).for_each(|(mask, journal)| lists.add(mask, journal));
         let packs: [&[u8]; 4] = [&pair.masks[0], &pair.journals[0], &pair.masks[1], &pair.journals[1]];
         tally.case(&name, &packs, || compare::alike_with_rust(&pair));
         if let Some(port) = port.as_ref().filter(|_| pair.same_slots) {
@@ -158,17 +203,18 @@ fn alike(seed: u64, count: u64) -> Tally {
         }
     }
     println!("pairs whose journals differ in their bytes: {different} of {count}");
+    lists.report();
     tally.report(&format!("alike, seed {seed}"));
     tally
 }
 
-/// Two shapes of each kind, and some small nestings.
+/// Two shapes of each kind, and small nestings: six of runs and carried children, six with lists.
 fn few_shapes(r: &mut Rng) -> Vec<Shape> {
     let mut shapes = vec![];
-    for kind in BITS..=DICTIONARY {
+    for kind in BITS..=LARGE_LIST {
         shapes.extend(std::iter::repeat_with(|| single(r)).filter(|s| s.kind == kind).take(2));
     }
-    shapes.extend(nestings().into_iter().filter(|s| s.nodes() <= 5).take(6));
+    shapes.extend(nestings().into_iter().filter(|s| s.nodes() <= 5).take(12));
     shapes
 }
 
@@ -319,7 +365,7 @@ fn list(seed: u64, count: u64, folder: &str) -> Tally {
 fn paper() -> Tally {
     let mut tally = Tally::default();
     let port = port();
-    for case in paper::bench().into_iter().chain(paper::refusals()).chain(paper::limits()) {
+    for case in paper::bench().into_iter().chain(paper::refusals()).chain(paper::lists()).chain(paper::limits()) {
         // the big ones are not for reading
         let shown: &[&[u8]] = if case.journal.len() < 5000 { &[&case.mask, &case.journal] } else { &[] };
         tally.case(case.name, shown, || compare::paper_case(&Model, &case));

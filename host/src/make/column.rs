@@ -1,6 +1,7 @@
 //! Columns: what each row holds, apart from where its bytes stand.
 use super::{Rng, Shape};
 use crate::pack::*;
+use std::ops::Range;
 
 #[derive(Debug, Clone)]
 pub struct Column {
@@ -12,8 +13,10 @@ pub struct Column {
     pub bitmap: bool,
     /// for each row
     pub valid: Vec<bool>,
-    /// for each row: a bit, a value, the row's own bytes, a view, offset and size, an id or a key; none for runs and struct
+    /// for each row: a bit, a value, the row's own bytes, a view, offset and size, an id or a key; none for runs, struct and lists
     pub entries: Vec<Vec<u8>>,
+    /// the child row at which each row starts, and the one at which the last row ends; for lists only
+    pub offsets: Vec<usize>,
     /// run ends, rows passed over counted; for runs only
     pub ends: Vec<u64>,
     pub kids: Vec<Column>,
@@ -23,6 +26,16 @@ impl Column {
     /// The run that a row is in.
     fn run_of(&self, row: usize) -> usize {
         self.ends.partition_point(|end| *end <= (self.skip + row) as u64)
+    }
+
+    /// The child rows that a list has, null or not.
+    fn own_rows(&self, row: usize) -> Range<usize> {
+        self.offsets[row]..self.offsets[row + 1]
+    }
+
+    /// The child rows of the valid ones of these rows of lists.
+    fn shown(&self, rows: &[usize]) -> Vec<usize> {
+        rows.iter().filter(|row| self.valid[**row]).flat_map(|row| self.own_rows(*row)).collect()
     }
 }
 
@@ -71,12 +84,19 @@ impl<'a> Maker<'a> {
             bitmap: false,
             valid: vec![],
             entries: vec![],
+            offsets: vec![],
             ends: vec![],
             kids: vec![],
         };
         let mut most = 0;
         match shape.kind {
             RUNS => self.runs(&mut c, shape, like, weight),
+            // null lists may have any child rows, so the nulls come first
+            LIST | LARGE_LIST => {
+                self.validity(&mut c, shape, like);
+                self.lists(&mut c, shape, like, weight);
+                return c;
+            }
             STRUCT | UNION => {
                 for (k, kid) in shape.kids.iter().enumerate() {
                     let like = like.map(|l| Like { column: &l.column.kids[k], ..l });
@@ -113,6 +133,27 @@ impl<'a> Maker<'a> {
             c.kids.push(self.node(kid, rows, like, weight));
         }
         most
+    }
+
+    /// Offsets and the child. Rows of `like` have as many child rows as there, and these alike, unless they are null; child rows that no
+    /// row has come before and after.
+    fn lists(&mut self, c: &mut Column, shape: &Shape, like: Option<Like>, weight: usize) {
+        // two at least, so that a long column has lists of several rows, and on average no more rows below it than its own
+        let most = self.r.pick(&[0, 1, 2, 4, 9]).min(LIST_ROWS / (weight * (c.rows + 1)) + 2);
+        let mut lengths: Vec<usize> = (0..c.rows).map(|_| self.r.below(most + 1)).collect();
+        if let Some(l) = like {
+            for (k, a) in l.kept.iter().zip(l.at).filter(|(k, _)| l.column.valid[**k]) {
+                lengths[*a] = l.column.own_rows(*k).len();
+            }
+        }
+        let spare = |r: &mut Rng| if r.percent(50) { 0 } else { r.below(10) };
+        c.offsets = vec![spare(self.r)];
+        lengths.iter().for_each(|length| c.offsets.push(c.offsets.last().unwrap() + length));
+        let rows = c.offsets[c.rows] + spare(self.r);
+        let (kept, at) = like.map_or((vec![], vec![]), |l| (l.column.shown(l.kept), c.shown(l.at)));
+        let like = like.map(|l| Like { column: &l.column.kids[0], kept: &kept, at: &at });
+        let kid = self.node(&shape.kids[0], rows, like, weight);
+        c.kids.push(kid);
     }
 
     /// Run ends and the child. Rows of `like` that share a run share one here, and others do not.

@@ -47,7 +47,8 @@ fn other(r: &mut Rng, old: u64) -> u64 {
     match r.below(8) {
         0 | 1 => old.wrapping_add(1),
         2 | 3 => old.wrapping_sub(1),
-        4 => r.below(14) as u64,
+        // a kind, or one past the last
+        4 => r.below(KINDS + 2) as u64,
         5 => r.pick(&[
             0,
             1,
@@ -116,13 +117,18 @@ fn tree(r: &mut Rng, pack: &mut Vec<u8>) {
     let read = Pack::read(pack).unwrap();
     let (body, mut nodes) = (read.body.to_vec(), read.nodes.clone());
     let at = r.below(count);
-    match r.below(6) {
+    match r.below(7) {
         0 => nodes.insert(at, nodes[at]),
         1 if count > 1 => drop(nodes.remove(at)),
         2 => {
             // still a tree, if it is not too deep
             let kind = r.pick(&[STRUCT, UNION]);
             nodes.insert(0, Node::new(kind, 0, nodes[0].rows as usize, 1));
+        }
+        6 => {
+            // a list of no rows, whose one offset is tested all the same; among small numbers it may be right
+            let first = r.below(body.len() + 1) as u32;
+            nodes.insert(0, Node { first, ..Node::new(r.pick(&[LIST, LARGE_LIST]), 0, 0, 1) });
         }
         3 => {
             let open = matches!(nodes[at].kind, VIEWS | STRUCT | UNION);
@@ -147,7 +153,7 @@ fn entry(r: &mut Rng, pack: &mut [u8]) {
     let (width, rows) = match n.kind {
         VIEWS => (4, 4 * n.span()),
         RUNS => (n.width(), child_rows as usize),
-        BYTES | LARGE_BYTES => (n.width(), n.span() + 1),
+        BYTES | LARGE_BYTES | LIST | LARGE_LIST => (n.width(), n.span() + 1),
         LIST_VIEW | LARGE_LIST_VIEW | UNION | DICTIONARY => (n.width(), n.span()),
         _ => return,
     };

@@ -79,6 +79,11 @@ fn add(r: &mut Rng, c: &Column, nodes: &mut Vec<Node>, buffers: &mut Vec<(usize,
             n.second_length = data.len() as u32;
             buffers.extend([(at, Field::First, offsets), (at, Field::Second, data)]);
         }
+        LIST | LARGE_LIST => {
+            let mut offsets = r.bytes(c.skip * width);
+            c.offsets.iter().for_each(|offset| offsets.extend(&offset.to_le_bytes()[..width]));
+            buffers.push((at, Field::First, offsets));
+        }
         LIST_VIEW | LARGE_LIST_VIEW => {
             let (offsets, sizes) = (entries(0..width), entries(width..2 * width));
             buffers.extend([(at, Field::First, offsets), (at, Field::Second, sizes)]);

@@ -30,6 +30,8 @@ fn build_node(pack: &Pack, i: usize) -> ArrayRef {
         (VIEWS, _) => at.views(&kids),
         (LIST_VIEW, _) => at.list_view::<i32>(&kids[0]),
         (LARGE_LIST_VIEW, _) => at.list_view::<i64>(&kids[0]),
+        (LIST, _) => at.list::<i32>(&kids[0]),
+        (LARGE_LIST, _) => at.list::<i64>(&kids[0]),
         (RUNS, 2) => at.runs::<Int16Type>(&kids[0]),
         (RUNS, 4) => at.runs::<Int32Type>(&kids[0]),
         (RUNS, _) => at.runs::<Int64Type>(&kids[0]),
@@ -106,6 +108,11 @@ impl Place<'_> {
         let (offsets, sizes) = (self.entries::<O>(self.n.first, 0), self.entries::<O>(self.n.second, 0));
         // SAFETY: accepted, so every range lies in the child
         Arc::new(unsafe { GenericListViewArray::new_unchecked(field(kid), offsets, sizes, kid.clone(), self.nulls()) })
+    }
+
+    fn list<O: OffsetSizeTrait>(&self, kid: &ArrayRef) -> ArrayRef {
+        let offsets = OffsetBuffer::new(self.entries::<O>(self.n.first, 1));
+        Arc::new(GenericListArray::new(field(kid), offsets, kid.clone(), self.nulls()))
     }
 
     fn runs<R: RunEndIndexType>(&self, kid: &ArrayRef) -> ArrayRef {

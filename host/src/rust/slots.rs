@@ -40,6 +40,13 @@ pub fn slots(a: &dyn Array) -> Vec<Slot> {
             rows(&|i| Rc::new(Value::Bytes(b.value_data()[o[i] as usize..o[i + 1] as usize].to_vec())))
         }};
     }
+    macro_rules! list {
+        ($o:ty) => {{
+            let l = a.as_list::<$o>();
+            let (o, v) = (l.value_offsets(), slots(l.values().as_ref()));
+            rows(&|i| Rc::new(Value::List(v[o[i] as usize..o[i + 1] as usize].to_vec())))
+        }};
+    }
     macro_rules! list_view {
         ($o:ty) => {{
             let l = a.as_list_view::<$o>();
@@ -74,6 +81,8 @@ pub fn slots(a: &dyn Array) -> Vec<Slot> {
                 }))
             })
         },
+        DataType::List(_) => list!(i32),
+        DataType::LargeList(_) => list!(i64),
         DataType::ListView(_) => list_view!(i32),
         DataType::LargeListView(_) => list_view!(i64),
         DataType::RunEndEncoded(_, _) => arrow_array::downcast_run_array! {

@@ -1,11 +1,12 @@
 //! A result of filter.rs as extract bytes. What filter.rs leaves open, and no slot shows, is evened out here: after route all a
 //! result is a part of its source (offsets and run ends not rebuilt, perhaps a bitmap with no null), after route none it has no
-//! data buffers, and a carried child of 0 rows keeps its own children's rows.
+//! data buffers, a carried child of 0 rows keeps its own children's rows, and a list has the child rows of null rows too.
 use crate::pack::*;
 use arrow_array::cast::AsArray;
 use arrow_array::types::*;
 use arrow_array::*;
 use arrow_buffer::*;
+use arrow_select::filter::filter;
 use std::sync::Arc;
 
 /// The extract that holds `result`, whose columns are those of `journal`.
@@ -50,7 +51,9 @@ impl Writer<'_> {
         let parts = match &array {
             Some(array) => parts(&source, array.as_ref()),
             // offsets of no rows are one 0
-            None if matches!(n.kind, BYTES | LARGE_BYTES) => Parts { first: vec![0; n.width()], ..Default::default() },
+            None if matches!(n.kind, BYTES | LARGE_BYTES | LIST | LARGE_LIST) => {
+                Parts { first: vec![0; n.width()], ..Default::default() }
+            }
             None => Parts::default(),
         };
         if n.kind != STRUCT {
@@ -86,6 +89,8 @@ fn parts(n: &Node, array: &dyn Array) -> Parts {
         (VIEWS, _) => views(array),
         (LIST_VIEW, _) => list_view::<i32>(array),
         (LARGE_LIST_VIEW, _) => list_view::<i64>(array),
+        (LIST, _) => list::<i32>(array),
+        (LARGE_LIST, _) => list::<i64>(array),
         (RUNS, 2) => runs::<Int16Type>(array),
         (RUNS, 4) => runs::<Int32Type>(array),
         (RUNS, _) => runs::<Int64Type>(array),
@@ -135,6 +140,20 @@ fn views(array: &dyn Array) -> Parts {
 fn list_view<O: OffsetSizeTrait>(array: &dyn Array) -> Parts {
     let array = array.as_list_view::<O>();
     Parts { first: raw(array.offsets()), second: raw(array.sizes()), kids: vec![array.values().clone()] }
+}
+
+/// Null rows are empty, and the child has the rows of the others only, which filter.rs picks.
+fn list<O: OffsetSizeTrait>(array: &dyn Array) -> Parts {
+    let list = array.as_list::<O>();
+    let mut offsets = vec![O::default()];
+    let mut shown = vec![false; list.values().len()];
+    for (row, own) in list.value_offsets().windows(2).enumerate() {
+        let own = own[0].as_usize()..if list.is_valid(row) { own[1] } else { own[0] }.as_usize();
+        offsets.push(O::from_usize(offsets[row].as_usize() + own.len()).unwrap());
+        shown[own].fill(true);
+    }
+    let shown = BooleanArray::from(BooleanBuffer::collect_bool(shown.len(), |i| shown[i]));
+    Parts { first: raw(&offsets), second: vec![], kids: vec![filter(list.values().as_ref(), &shown).unwrap()] }
 }
 
 fn runs<R: RunEndIndexType>(array: &dyn Array) -> Parts {

@@ -5,7 +5,8 @@ use native.Mathlib.Omega.{arith}
 use borrow.Author.Needs.{needs}
 use lib.ListN.{replicate}
 use Rattle.format.proofs.Put.{Left, whole, stored, done, kept}
-use Rattle.fill.proofs.Stored.{zeros-all, zeros-next, zeros-none, zeros-over}
+use Rattle.marks.proofs.Stored.{same-next, same-none}
+use Rattle.fill.proofs.Stored.{zeros-all, zeros-over}
 use Rattle.fill.proofs.clear.Statement.{statement}
 use Rattle.fill.proofs.clear.Tie as tie
 
@@ -22,13 +23,13 @@ slice-write-scratch : tie.Need-slice-write-scratch Inv-loop μ-loop
 slice-write-scratch c = omega (arith, kept (c .before .loop .inv .1))
 
 loop-again : tie.Need-loop-again Inv-loop μ-loop
-loop-again c = (search needs, stored (c .before .loop .inv .1) (zeros-next (c .before .before .args .n) (c .before .loop .j) (omega arith)) refl)
+loop-again c = (search needs, stored (c .before .loop .inv .1) (same-next 0 (c .before .before .args .n) (c .before .loop .j) (omega arith)) refl)
 
 same-length : tie.Need-same-length Inv-loop μ-loop
 same-length c = kept (c .before .loop .inv .1)
 
 returns : tie.Need-returns Inv-loop μ-loop
-returns c = zeros-over (c .before .before .args .n) (done (c .before .loop .inv .1) (zeros-none (c .before .before .args .n) (c .before .loop .j) (omega arith)) refl) (c .before .before .pre)
+returns c = zeros-over (c .before .before .args .n) (done (c .before .loop .inv .1) (same-none 0 (c .before .before .args .n) (c .before .loop .j) (omega arith)) refl) (c .before .before .pre)
 
 pub clear-spec : {M : Type 1} → statement M
 clear-spec =

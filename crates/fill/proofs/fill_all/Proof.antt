@@ -7,8 +7,8 @@ use Rattle.format.proofs.Put.{same-size}
 use Rattle.nesting.specs.Rows.{picksOf}
 use Rattle.nesting.proofs.Counted.{ready-at}
 use Rattle.nesting.proofs.Scratch.{child-inside}
-use Rattle.fill.proofs.RunBits.{at-runs}
-use Rattle.fill.proofs.Filling.{FilledTo, filled-none, next-fits, filled-more, filled-same, filled-all}
+use Rattle.fill.proofs.Filling.{FilledTo, filled-none, filled-earlier, next-fits, filled-more, filled-same, filled-all}
+use Rattle.fill.proofs.Taking.{taking}
 use Rattle.fill.proofs.fill_all.Statement.{statement}
 use Rattle.fill.proofs.fill_all.Tie as tie
 
@@ -27,48 +27,51 @@ loop-holds c = (omega arith, refl, filled-none)
 add-i : tie.Need-add-i Inv-loop μ-loop
 add-i c = omega (arith, c .before .before .before .before .before .before .pre .1 .0 .sound .shape .few)
 
-mul-if1 : tie.Need-mul-if1 Inv-loop μ-loop
-mul-if1 c = omega (arith, c .before .before .before .before .before .before .pre .1 .0 .sound .shape .few)
+mul-takes-scratch : tie.Need-mul-takes-scratch Inv-loop μ-loop
+mul-takes-scratch c = omega (arith, c .before .before .before .before .before .before .pre .1 .0 .sound .shape .few)
 
-mul-if1-2 : tie.Need-mul-if1-2 Inv-loop μ-loop
-mul-if1-2 c = omega (arith, c .before .before .before .before .before .before .pre .1 .0 .sound .shape .few)
+mul-takes-scratch-2 : tie.Need-mul-takes-scratch-2 Inv-loop μ-loop
+mul-takes-scratch-2 c = omega (arith, c .before .before .before .before .before .before .pre .1 .0 .sound .shape .few)
 
-element-copy-out-if1 : tie.Need-element-copy-out-if1 Inv-loop μ-loop
-element-copy-out-if1 c = omega (arith, c .before .before .before .before .before .before .pre .1 .0 .sound .shape .few)
+element-copy-out-takes-scratch : tie.Need-element-copy-out-takes-scratch Inv-loop μ-loop
+element-copy-out-takes-scratch c = omega (arith, c .before .before .before .before .before .before .pre .1 .0 .sound .shape .few)
+
+takes-scratch-requires : tie.Need-takes-scratch-requires Inv-loop μ-loop
+takes-scratch-requires c κs = tt
+
+fill-next-requires : tie.Need-fill-next-requires Inv-loop μ-loop
+fill-next-requires c κs =
+    let q = c .before .before .before .before .before .before .before .before .before .before .before .pre in
+    let l = c .before .before .before .before .before .before .loop in
+    let asked = c .before .before .before .takes-scratch in
+    let first = c .before .before .if1 in
+    ((q .0, ready-at (q .1 .0) (omega arith)), (taking (q .1 .0 .sound) (q .1 .0 .tabled) (omega arith) (asked .ensures) (first .taken), (filled-earlier (q .1 .0 .sound) (omega arith) (l .inv .2), next-fits (q .1 .0 .sound) (q .1 .0 .tabled) (omega arith) (asked .ensures) (first .taken) (q .1 .1) (l .inv .2))))
 
 mul-places : tie.Need-mul-places Inv-loop μ-loop
-mul-places c = omega (arith, c .before .before .before .before .before .before .before .before .pre .1 .0 .sound .shape .few)
+mul-places c = omega (arith, c .before .before .before .before .before .before .before .before .before .before .before .before .before .before .pre .1 .0 .sound .shape .few)
 
 array-write-places : tie.Need-array-write-places Inv-loop μ-loop
-array-write-places c = omega (arith, child-inside (c .before .before .before .before .before .before .before .before .pre .1 .0 .sound) (c .before .before .before .before .before .before .before .before .pre .1 .0 .tabled) (omega arith) (c .if1 .taken), c .before .before .before .before .before .before .before .before .pre .1 .0 .sound .shape .few)
-
-fill-child-requires : tie.Need-fill-child-requires Inv-loop μ-loop
-fill-child-requires c κs =
-    let q = c .before .before .before .before .before .before .before .before .before .pre in
-    let r = q .1 .0 in
-    let l = c .before .before .before .before .loop in
-    let e = c .before .if1 .taken in
-    let inside = child-inside (r .sound) (r .tabled) (omega arith) e in
-    (q .0, (ready-at r (omega arith), (at-runs _ (r .sound) (r .tabled) _ (omega arith) e, next-fits (r .sound) (r .tabled) (omega arith) e (q .1 .1) (l .inv .2))))
+array-write-places c =
+    let q = c .before .before .before .before .before .before .before .before .before .before .before .before .before .before .pre in
+    omega (arith, child-inside (q .1 .0 .sound) (q .1 .0 .tabled) (omega arith) (c .before .before .before .before .before .before .takes-scratch .ensures) (c .before .before .before .before .before .if1 .taken), q .1 .0 .sound .shape .few)
 
 loop-less : tie.Need-loop-less Inv-loop μ-loop
 loop-less c = omega arith
 
 loop-again : tie.Need-loop-again Inv-loop μ-loop
 loop-again c =
-    let q = c .before .before .before .before .before .before .before .before .before .before .before .before .pre in
-    let r = q .1 .0 in
-    let l = c .before .before .before .before .before .before .before .loop in
-    (omega arith, simp length-set (l .inv .1), filled-more (r .sound) (r .tabled) (omega arith) (c .before .before .before .before .if1 .taken) (q .1 .1) (l .inv .2) (l .inv .1) (c .before .before .fill-child .ensures))
+    let q = c .before .before .before .before .before .before .before .before .before .before .before .before .before .before .pre in
+    let l = c .before .before .before .before .before .before .before .before .before .loop in
+    (omega arith, simp length-set (l .inv .1), filled-more (q .1 .0 .sound) (q .1 .0 .tabled) (omega arith) (c .before .before .before .before .before .before .takes-scratch .ensures) (c .before .before .before .before .before .if1 .taken) (q .1 .1) (l .inv .2) (l .inv .1) (c .before .before .fill-next .ensures))
 
 loop-less-2 : tie.Need-loop-less-2 Inv-loop μ-loop
 loop-less-2 c = omega arith
 
 loop-again-2 : tie.Need-loop-again-2 Inv-loop μ-loop
 loop-again-2 c =
-    let r = c .before .before .before .before .before .before .before .before .pre .1 .0 in
-    let l = c .before .before .before .loop in
-    (omega arith, l .inv .1, filled-same (r .sound) (r .tabled) (omega arith) (c .if1 .left) (l .inv .2))
+    let q = c .before .before .before .before .before .before .before .before .before .pre in
+    let l = c .before .before .before .before .loop in
+    (omega arith, l .inv .1, filled-same (q .1 .0 .sound) (q .1 .0 .tabled) (omega arith) (c .before .takes-scratch .ensures) (c .if1 .left) (l .inv .2))
 
 same-length : tie.Need-same-length Inv-loop μ-loop
 same-length c = same-size (c .before .loop .inv .2 .wrote)
@@ -87,12 +90,13 @@ fill-all-spec =
     node-count-requires
     loop-holds
     add-i
-    mul-if1
-    mul-if1-2
-    element-copy-out-if1
+    mul-takes-scratch
+    mul-takes-scratch-2
+    element-copy-out-takes-scratch
+    takes-scratch-requires
+    fill-next-requires
     mul-places
     array-write-places
-    fill-child-requires
     loop-less
     loop-again
     loop-less-2

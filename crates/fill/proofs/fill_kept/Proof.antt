@@ -1,95 +1,75 @@
--- `fill::fill_kept` meets its contract. What is left to write are the bytes of the rows from r on. Assumes nothing.
-use Prim.Native.Nat.{_≤_, _-_}
-use mathlib.Core.Path.{_≡_, refl}
+-- `fill::fill_kept` meets its contract. Assumes nothing.
+use Prim.Native.Nat.{_+_, _-_, _*_, _/_, _≤_}
 use native.Mathlib.Omega.{arith}
 use borrow.Author.Needs.{needs}
-use Rattle.format.specs.Bytes.{packed}
+use borrow.Rule.Slice.PartMut.{mid-len}
+use lib.ListN.{length, getD}
+use Rattle.format.specs.Bytes.{bytesFor, packed}
 use Rattle.format.specs.Node.{rows}
 use Rattle.format.specs.Slots.{slotsFrom}
-use Rattle.format.proofs.Put.{Left, whole, kept}
 use Rattle.nesting.specs.Rows.{keeps, picksOf}
-use Rattle.nesting.proofs.Sieve.{node-few, len-is, len-few, len-fits}
-use Rattle.fill.proofs.Packing.{rows-all, byte-room, byte-stored, bytes-done}
+use Rattle.nesting.proofs.Sieve.{node-few, len-is, len-fits}
+use Rattle.list_marks.proofs.Rooted.{length-kept, part-wrote}
 use Rattle.fill.proofs.fill_kept.Statement.{statement}
 use Rattle.fill.proofs.fill_kept.Tie as tie
 
-abbrev Inv-loop : tie.InvT-loop
-Inv-loop mask bits journal table parents counts node scratch₀ at len place₀ r₀ scratch place r = (len ≡ rows journal node) × (r ≤ len) × Left scratch₀ at (packed (slotsFrom (keeps journal (picksOf mask bits) node) len 0)) scratch place (packed (slotsFrom (keeps journal (picksOf mask bits) node) (len - r) r))
-
-abbrev μ-loop : tie.MeasureT-loop
-μ-loop mask bits journal table parents counts node scratch₀ at len place₀ r₀ scratch place r = len - r
-
-mul-len : tie.Need-mul-len Inv-loop μ-loop
+mul-len : tie.Need-mul-len
 mul-len c = omega (arith, node-few (c .before .before .before .pre .1 .0) (c .before .before .before .pre .1 .1 .0))
 
-add-len : tie.Need-add-len Inv-loop μ-loop
+add-len : tie.Need-add-len
 add-len c = omega (arith, node-few (c .before .before .before .pre .1 .0) (c .before .before .before .pre .1 .1 .0))
 
-mul-len-2 : tie.Need-mul-len-2 Inv-loop μ-loop
+mul-len-2 : tie.Need-mul-len-2
 mul-len-2 c = omega (arith, node-few (c .before .before .before .pre .1 .0) (c .before .before .before .pre .1 .1 .0))
 
-element-copy-out-len : tie.Need-element-copy-out-len Inv-loop μ-loop
+element-copy-out-len : tie.Need-element-copy-out-len
 element-copy-out-len c = omega (arith, node-few (c .before .before .before .pre .1 .0) (c .before .before .before .pre .1 .1 .0))
 
-cast-len : tie.Need-cast-len Inv-loop μ-loop
+cast-len : tie.Need-cast-len
 cast-len c = omega (arith, len-fits (c .before .before .before .before .pre .1 .0) (c .before .before .before .before .pre .1 .1 .0))
 
-loop-holds : tie.Need-loop-holds Inv-loop μ-loop
-loop-holds c = (len-is (c .before .before .before .before .pre .1 .0) (c .before .before .before .before .pre .1 .1 .0), omega arith, whole refl (rows-all _ _))
+add-next : tie.Need-add-next
+add-next c = omega (arith, len-fits (c .before .before .before .before .pre .1 .0) (c .before .before .before .before .pre .1 .1 .0))
 
-add-least : tie.Need-add-least Inv-loop μ-loop
-add-least c = omega (arith, len-few (c .before .before .before .before .before .before .pre .1 .0) (c .before .before .before .before .before .before .pre .1 .1 .0))
+add-next-2 : tie.Need-add-next-2
+unfolding bytesFor
+add-next-2 c = omega (arith, len-is (c .before .before .before .before .pre .1 .0) (c .before .before .before .before .pre .1 .1 .0), c .before .before .before .before .pre .1 .1 .1)
 
-least-requires : tie.Need-least-requires Inv-loop μ-loop
-least-requires c κs = search needs
+sub-mark-kept : tie.Need-sub-mark-kept
+sub-mark-kept c = search needs
 
-kept-byte-requires : tie.Need-kept-byte-requires Inv-loop μ-loop
-kept-byte-requires c κs =
-    let q = c .before .before .before .before .before .before .before .pre in
-    (q .0, (q .1 .0, (q .1 .1 .0, omega (arith, c .least .ensures), omega (arith, c .least .ensures), omega (arith, c .least .ensures))))
+part-mark-kept-start : tie.Need-part-mark-kept-start
+part-mark-kept-start c = search needs
 
-slice-write-scratch : tie.Need-slice-write-scratch Inv-loop μ-loop
-slice-write-scratch c =
-    let l = c .before .before .before .loop in
-    omega (arith, byte-room _ _ (l .r) (l .inv .2) (c .before .least .result) (omega arith) (c .before .least .ensures) (rw (l .inv .0) (c .before .before .before .before .before .before .before .before .pre .1 .1 .1)))
+part-mark-kept-end : tie.Need-part-mark-kept-end
+unfolding bytesFor
+part-mark-kept-end c = omega (arith, len-is (c .before .before .before .before .pre .1 .0) (c .before .before .before .before .pre .1 .1 .0), c .before .before .before .before .pre .1 .1 .1)
 
-add-place : tie.Need-add-place Inv-loop μ-loop
-add-place c =
-    let l = c .before .before .before .loop in
-    omega (arith, byte-room _ _ (l .r) (l .inv .2) (c .before .least .result) (omega arith) (c .before .least .ensures) (rw (l .inv .0) (c .before .before .before .before .before .before .before .before .pre .1 .1 .1)), kept (l .inv .2))
+mark-kept-requires : tie.Need-mark-kept-requires
+unfolding bytesFor
+mark-kept-requires c κs = (c .before .before .before .before .before .pre .0, (c .before .before .before .before .before .pre .1 .0, (c .before .before .before .before .before .pre .1 .1 .0, omega (arith, mid-len (c .before .before .before .before .before .args .at) (c .before .before .before .before .before .args .at + (getD (c .before .before .before .before .before .args .table .now) (10 * c .before .before .before .before .before .args .node + 2) 0 + 7) / 8) (c .before .before .before .before .before .args .scratch .now) (omega (arith, len-is (c .before .before .before .before .before .pre .1 .0) (c .before .before .before .before .before .pre .1 .1 .0), c .before .before .before .before .before .pre .1 .1 .1)), len-is (c .before .before .before .before .before .pre .1 .0) (c .before .before .before .before .before .pre .1 .1 .0)))))
 
-loop-less : tie.Need-loop-less Inv-loop μ-loop
-loop-less c = omega (arith, c .before .least .ensures)
+same-length : tie.Need-same-length
+same-length c = search needs
 
-loop-again : tie.Need-loop-again Inv-loop μ-loop
-loop-again c =
-    let l = c .before .before .before .loop in
-    (l .inv .0, omega (arith, c .before .least .ensures), byte-stored _ _ (l .r) (l .inv .2) (c .before .least .result) (omega arith) (c .before .least .ensures) (c .kept-byte .result) (c .kept-byte .ensures))
-
-same-length : tie.Need-same-length Inv-loop μ-loop
-same-length c = kept (c .before .loop .inv .2)
-
-returns : tie.Need-returns Inv-loop μ-loop
-returns c = bytes-done _ _ (c .before .loop .r) (c .before .loop .inv .2) _ (c .before .loop .inv .0) (omega arith)
+returns : tie.Need-returns
+unfolding bytesFor
+returns c = part-wrote {bs = packed (slotsFrom (keeps (c .before .before .before .before .before .before .before .before .args .journal .now) (picksOf (c .before .before .before .before .before .before .before .before .args .mask .now) (c .before .before .before .before .before .before .before .before .args .bits)) (c .before .before .before .before .before .before .before .before .args .node)) (rows (c .before .before .before .before .before .before .before .before .args .journal .now) (c .before .before .before .before .before .before .before .before .args .node)) 0)} (c .before .before .before .before .before .before .before .before .args .at) ((c .before .before .before .before .before .before .before .before .args .at + (getD (c .before .before .before .before .before .before .before .before .args .table .now) (10 * c .before .before .before .before .before .before .before .before .args .node + 2) 0 + 7) / 8) - c .before .before .before .before .before .before .before .before .args .at) (c .before .before .mark-kept .ensures) (omega (arith, length-kept (keeps (c .before .before .before .before .before .before .before .before .args .journal .now) (picksOf (c .before .before .before .before .before .before .before .before .args .mask .now) (c .before .before .before .before .before .before .before .before .args .bits)) (c .before .before .before .before .before .before .before .before .args .node)) (rows (c .before .before .before .before .before .before .before .before .args .journal .now) (c .before .before .before .before .before .before .before .before .args .node)), len-is (c .before .before .before .before .before .before .before .before .pre .1 .0) (c .before .before .before .before .before .before .before .before .pre .1 .1 .0))) (omega (arith, len-is (c .before .before .before .before .before .before .before .before .pre .1 .0) (c .before .before .before .before .before .before .before .before .pre .1 .1 .0), c .before .before .before .before .before .before .before .before .pre .1 .1 .1)) (omega arith)
 
 pub fill-kept-spec : {M : Type 1} → statement M
 fill-kept-spec =
     tie.close
     (tie.spec
-    Inv-loop
-    μ-loop
     mul-len
     add-len
     mul-len-2
     element-copy-out-len
     cast-len
-    loop-holds
-    add-least
-    least-requires
-    kept-byte-requires
-    slice-write-scratch
-    add-place
-    loop-less
-    loop-again
+    add-next
+    add-next-2
+    sub-mark-kept
+    part-mark-kept-start
+    part-mark-kept-end
+    mark-kept-requires
     same-length
     returns)

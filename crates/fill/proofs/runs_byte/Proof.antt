@@ -1,5 +1,5 @@
 -- `fill::runs_byte` meets its contract. The loop's invariant: x has the runs before r, and run r starts at lo. Assumes nothing.
-use Prim.Native.Nat.{suc, _+_, _*_, _%_, _^_, _≤_, _-_}
+use Prim.Native.Nat.{_+_, _*_, _%_, _^_, _≤_, _-_}
 use mathlib.Core.Bool.{and-eq-true-iff}
 use mathlib.Core.Logic.{⊎-elim}
 use mathlib.Core.Path.{_≡_, refl, _∙_}
@@ -9,25 +9,25 @@ use borrow.Author.Tests.{leb-true}
 use Rattle.format.specs.Slots.{wordFrom}
 use Rattle.slots.specs.Source.{slotOf}
 use Rattle.scan.specs.Asked.{anyIn}
-use Rattle.nesting.specs.Rows.{keeps, picksOf, edge}
+use Rattle.nesting.specs.Rows.{handsOn, picksOf, edge}
 use Rattle.nesting.proofs.RunEdges.{edge-last}
 use Rattle.fill.proofs.Packing.{word-none, word-byte, word-next}
-use Rattle.fill.proofs.RunBits.{runs-few, range-order, run-kept}
+use Rattle.fill.proofs.RunBits.{runs-few, range-order, run-handed}
 use Rattle.fill.proofs.runs_byte.Statement.{statement}
 use Rattle.fill.proofs.runs_byte.Tie as tie
 
 abbrev Inv-loop : tie.InvT-loop
-Inv-loop mask bits journal table i from to start len x₀ lo₀ r₀ x lo r =
-    (from ≤ r) × (r ≤ to) × (lo ≡ edge journal i (bits .len) r) × (x ≡ wordFrom (keeps journal (picksOf mask bits) (suc i)) (r - from) from)
+Inv-loop source bits journal table i from to start len x₀ lo₀ r₀ x lo r =
+    (from ≤ r) × (r ≤ to) × (lo ≡ edge journal i (bits .len) r) × (x ≡ wordFrom (handsOn journal i (picksOf source bits)) (r - from) from)
 
 abbrev μ-loop : tie.MeasureT-loop
-μ-loop mask bits journal table i from to start len x₀ lo₀ r₀ x lo r = to - r
+μ-loop source bits journal table i from to start len x₀ lo₀ r₀ x lo r = to - r
 
 loop-holds : tie.Need-loop-holds Inv-loop μ-loop
 loop-holds c = (omega arith, omega arith, c .before .before .pre .1 .1 .3, word-none _ _)
 
 end-edge-requires : tie.Need-end-edge-requires Inv-loop μ-loop
-end-edge-requires c κs = (c .before .before .before .before .pre .1 .0 .runs, omega arith)
+end-edge-requires c κs = (c .before .before .before .before .pre .1 .0, omega arith)
 
 -- the run does not end before it starts, nor past the last slot
 order : (c : tie.After-end-edge Inv-loop μ-loop) → c .before .before .loop .lo ≤ c .end-edge .result
@@ -56,18 +56,18 @@ any-within-requires c κs = (c .before .before .before .before .before .before .
 picked : (c : tie.Joined1 Inv-loop μ-loop) →
     let e = c .before in
     let a = e .before .before .before .before .before .args in
-    c .if1 .some ≡ anyIn (slotOf (a .mask .now) (a .bits)) (e .before .before .loop .lo) (e .end-edge .result)
+    c .if1 .some ≡ anyIn (slotOf (a .source .now) (a .bits)) (e .before .before .loop .lo) (e .end-edge .result)
 picked c = ⊎-elim (λ v. v .2 ∙ v .1 .ensures) (λ v. v .2 ∙ v .1 .ensures) (c .if1 .came)
 
 -- so its bit is the next one
 added : (c : tie.Joined1 Inv-loop μ-loop) →
     let l = c .before .before .before .loop in
     let a = c .before .before .before .before .before .before .args in
-    l .x + boolByte (c .if1 .some) * 2 ^ (l .r - a .from) % 256 ≡ wordFrom (keeps (a .journal .now) (picksOf (a .mask .now) (a .bits)) (suc (a .i))) (l .r + 1 - a .from) (a .from)
+    l .x + boolByte (c .if1 .some) * 2 ^ (l .r - a .from) % 256 ≡ wordFrom (handsOn (a .journal .now) (a .i) (picksOf (a .source .now) (a .bits))) (l .r + 1 - a .from) (a .from)
 added c =
     let s = c .before .before .before .before .before .before in
     let l = c .before .before .before .loop in
-    let k = run-kept (s .pre .1 .0) (s .args .mask .now) (s .args .bits) (l .r) (l .r + 1) refl (omega arith) (l .inv .2) (c .before .end-edge .ensures) (c .if1 .some) (picked c) in
+    let k = run-handed (s .pre .1 .0) (s .args .source .now) (s .args .bits) (l .r) (l .r + 1) refl (omega arith) (l .inv .2) (c .before .end-edge .ensures) (c .if1 .some) (picked c) in
     word-next _ (s .args .from) (l .r) (l .x) (c .if1 .some) (omega arith) (omega arith) (l .inv .3) k
 
 add-x : tie.Need-add-x Inv-loop μ-loop

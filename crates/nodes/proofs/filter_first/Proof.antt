@@ -1,6 +1,7 @@
 -- `nodes::filter_first` meets its contract: each kind has its form of buffer. Assumes nothing.
 use mathlib.Core.Path.{refl, sym, _∙_}
 use borrow.Author.Needs.{needs}
+use Rattle.format.specs.Accepted as Accepted
 use Rattle.buffers.specs.Place.{rowsBy}
 use Rattle.nodes.specs.Place.{ofViews, ofLists32, ofLists64, ofUnion}
 use Rattle.buffers.proofs.PutLaws.{puts-none}
@@ -74,17 +75,29 @@ first-entries-requires-7 c κs =
     let k = sym (b .pre .1 .0 .is) ∙ c .before .enum-told12 .given .1 in
     (b .pre .0, (copies-dictionary (b .pre .0) k, b .pre .1 .1))
 
+first-spans-requires : tie.Need-first-spans-requires
+first-spans-requires c κs =
+    let b = c .before .before .before .before .before .before .before .before in
+    let k = sym (b .pre .1 .0 .is) ∙ c .before .enum-told13 .given .1 in
+    (b .pre .0, (rw k Accepted.Nests.nested32, b .pre .1 .1))
+
+first-spans-requires-2 : tie.Need-first-spans-requires-2
+first-spans-requires-2 c κs =
+    let b = c .before .before .before .before .before .before .before .before in
+    let k = sym (b .pre .1 .0 .is) ∙ c .before .enum-told14 .given .1 in
+    (b .pre .0, (rw k Accepted.Nests.nested64, b .pre .1 .1))
+
 returns-10 : tie.Need-returns-10
 returns-10 c =
     let b = c .before .before .before .before .before .before .before in
     let a = b .args in
     puts-none (first-struct (a .journal .now) (a .i) (rowsBy (a .sel) (a .s .now) (a .mask)) (sym (b .pre .1 .0 .is) ∙ c .enum-told10 .given .1)) refl
 
-returns-13 : tie.Need-returns-13
-returns-13 c =
+returns-15 : tie.Need-returns-15
+returns-15 c =
     let b = c .before .before .before .before .before .before .before in
     let a = b .args in
-    puts-none (first-unknown (a .journal .now) (a .i) (rowsBy (a .sel) (a .s .now) (a .mask)) (sym (b .pre .1 .0 .is) ∙ c .enum-told13 .given .1)) refl
+    puts-none (first-unknown (a .journal .now) (a .i) (rowsBy (a .sel) (a .s .now) (a .mask)) (sym (b .pre .1 .0 .is) ∙ c .enum-told15 .given .1)) refl
 
 pub filter-first-spec : {M : Type 1} → statement M
 filter-first-spec =
@@ -138,4 +151,12 @@ filter-first-spec =
     (λ c. search needs)
     (λ c. search needs)
     (λ c. search needs)
-    returns-13)
+    first-spans-requires
+    (λ c. search needs)
+    (λ c. search needs)
+    (λ c. search needs)
+    first-spans-requires-2
+    (λ c. search needs)
+    (λ c. search needs)
+    (λ c. search needs)
+    returns-15)

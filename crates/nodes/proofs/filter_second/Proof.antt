@@ -4,7 +4,7 @@ use borrow.Author.Needs.{needs}
 use Rattle.buffers.specs.Place.{rowsBy}
 use Rattle.nodes.specs.Place.{sizes32, sizes64}
 use Rattle.buffers.proofs.PutLaws.{puts-none}
-use Rattle.nodes.proofs.BufferLaws.{second-absent, bits, numeric, fixed, views, runs, struct, union, dictionary, unknown}
+use Rattle.nodes.proofs.BufferLaws.{second-absent, bits, numeric, fixed, views, runs, struct, union, dictionary, nested32, nested64, unknown}
 use Rattle.nodes.proofs.filter_second.Statement.{statement}
 use Rattle.nodes.proofs.filter_second.Tie as tie
 
@@ -69,4 +69,8 @@ filter-second-spec =
     (λ c. search needs)
     (λ c. let b = c .before .before .before .before .before .before in let a = b .args in puts-none (second-absent (a .journal .now) (a .i) (rowsBy (a .sel) (a .s .now) (a .mask)) (sym (b .pre .1 .0) ∙ c .enum-told12 .given .1) dictionary) refl)
     (λ c. search needs)
-    (λ c. let b = c .before .before .before .before .before .before in let a = b .args in puts-none (second-absent (a .journal .now) (a .i) (rowsBy (a .sel) (a .s .now) (a .mask)) (sym (b .pre .1 .0) ∙ c .enum-told13 .given .1) unknown) refl))
+    (λ c. let b = c .before .before .before .before .before .before in let a = b .args in puts-none (second-absent (a .journal .now) (a .i) (rowsBy (a .sel) (a .s .now) (a .mask)) (sym (b .pre .1 .0) ∙ c .enum-told13 .given .1) nested32) refl)
+    (λ c. search needs)
+    (λ c. let b = c .before .before .before .before .before .before in let a = b .args in puts-none (second-absent (a .journal .now) (a .i) (rowsBy (a .sel) (a .s .now) (a .mask)) (sym (b .pre .1 .0) ∙ c .enum-told14 .given .1) nested64) refl)
+    (λ c. search needs)
+    (λ c. let b = c .before .before .before .before .before .before in let a = b .args in puts-none (second-absent (a .journal .now) (a .i) (rowsBy (a .sel) (a .s .now) (a .mask)) (sym (b .pre .1 .0) ∙ c .enum-told15 .given .1) unknown) refl))

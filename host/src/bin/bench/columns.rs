@@ -11,7 +11,7 @@ const DATA: usize = 1 << 20;
 pub type Column = (&'static str, usize, fn(&mut Making, &mut Rng, usize));
 
 /// All rows that a node may have, or as many as make a pack of just under 16 MiB.
-pub const COLUMNS: [Column; 14] = [
+pub const COLUMNS: [Column; 17] = [
     ("native 1", ROWS, Making::native::<1>),
     ("native 4", ROWS, Making::native::<4>),
     ("native 8", ROWS, Making::native::<8>),
@@ -26,6 +26,10 @@ pub const COLUMNS: [Column; 14] = [
     ("dictionary", ROWS, Making::dictionary),
     ("struct of 8 columns", 273_000, Making::structure),
     ("union", ROWS, Making::union),
+    // the rows that lists of 3.5 rows on average can have below them, and a little less
+    ("lists", 298_000, Making::lists),
+    ("lists of lists", 85_000, Making::lists_of_lists),
+    ("runs of runs", ROWS, Making::runs_of_runs),
 ];
 
 /// A pack being put together.
@@ -110,8 +114,26 @@ impl Making {
         self.native::<4>(r, rows);
     }
 
-    /// Runs of 8 rows on average.
-    fn runs(&mut self, r: &mut Rng, rows: usize) {
+    /// Lists of 0 to 7 rows, one after the other; gives the child's rows.
+    fn list_node(&mut self, r: &mut Rng, rows: usize) -> usize {
+        let mut ends = vec![0u32];
+        (0..rows).for_each(|i| ends.push(ends[i] + r.below(8) as u32));
+        self.node(LIST, 0, rows, 1, ends.iter().flat_map(|e| e.to_le_bytes()));
+        ends[rows] as usize
+    }
+
+    fn lists(&mut self, r: &mut Rng, rows: usize) {
+        let rows = self.list_node(r, rows);
+        self.native::<4>(r, rows);
+    }
+
+    fn lists_of_lists(&mut self, r: &mut Rng, rows: usize) {
+        let rows = self.list_node(r, rows);
+        self.lists(r, rows);
+    }
+
+    /// Runs of 8 rows on average; gives how many.
+    fn run_node(&mut self, r: &mut Rng, rows: usize) -> usize {
         let mut ends = vec![];
         let mut end = 0;
         while end < rows {
@@ -119,7 +141,17 @@ impl Making {
             ends.push(end as u32);
         }
         self.node(RUNS, 4, rows, 1, ends.iter().flat_map(|e| e.to_le_bytes()));
-        self.native::<4>(r, ends.len());
+        ends.len()
+    }
+
+    fn runs(&mut self, r: &mut Rng, rows: usize) {
+        let runs = self.run_node(r, rows);
+        self.native::<4>(r, runs);
+    }
+
+    fn runs_of_runs(&mut self, r: &mut Rng, rows: usize) {
+        let runs = self.run_node(r, rows);
+        self.runs(r, runs);
     }
 
     /// Two children.
@@ -181,6 +213,11 @@ pub fn clustered(r: &mut Rng, slots: usize, count: usize) -> Vec<bool> {
     // run ends are moved until the count is right
     let mut have = picks.iter().filter(|pick| **pick).count();
     while have != count {
+        // a short mask may have no run end left to move, and the slots in front alone not picked
+        if have < count && !picks.windows(2).any(|pair| pair[0] && !pair[1]) {
+            picks[slots - count..].fill(true);
+            break;
+        }
         for i in 1..slots {
             if have > count && picks[i] && !picks[i - 1] {
                 picks[i] = false;

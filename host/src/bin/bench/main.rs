@@ -4,12 +4,14 @@
 //!     bench [--markdown] [COLUMN ...]
 //!
 //! filter      filter.rs's `filter` on arrays built beforehand
+//! plain       for lists, which filter.rs leaves to arrow-data: a filter for that one column in plain Rust, on arrays built beforehand
 //! validation  the content rules that must hold before such arrays may be built, in Rust: the faster of two ways to join the tests
 //! whole       the whole call of the port on the packs' bytes: check, measure, write; no list stored
 //! check, prepare, rest  its parts: the journal's verdict alone; the mask checked and counted alone; what is left of the whole
 //! memcpy      as many bytes as the extract has, copied
-//! ratio       whole / (validation + filter)
+//! ratio       whole / (validation + filter), for lists whole / (validation + plain)
 mod columns;
+mod plain;
 mod validate;
 
 use arrow_select::filter::filter;
@@ -18,6 +20,7 @@ use host::make::Rng;
 use host::pack::*;
 use host::port::entry::{self, Lent};
 use host::rust;
+use plain::Lists;
 use std::hint::black_box;
 use validate::{Early, Folded, validate};
 
@@ -79,6 +82,8 @@ struct Room {
 /// Times of one column under one mask, in ns for each row.
 struct Cell {
     filter: f64,
+    /// for lists
+    plain: Option<f64>,
     whole: f64,
     prepare: f64,
     memcpy: f64,
@@ -96,8 +101,12 @@ struct Timed {
 }
 
 impl Timed {
+    /// What the port's time is held to.
+    fn both(&self, cell: &Cell) -> f64 {
+        self.validation + cell.plain.unwrap_or(cell.filter)
+    }
     fn ratio(&self, cell: &Cell) -> f64 {
-        cell.whole / (self.validation + cell.filter)
+        cell.whole / self.both(cell)
     }
 }
 
@@ -110,11 +119,17 @@ fn time_cell(room: &mut Room, mask: &[u8], journal: &[u8], rows: usize) -> Cell 
         let lent = Lent { list: &mut [], scratch: &mut room.scratch, output: &mut room.output };
         assert_eq!(entry::filter(black_box(mask), black_box(journal), None, false, lent, &mut answer), 0);
     });
+    let plain = Lists::of(&Pack::read(journal).unwrap()).map(|lists| {
+        let words = plain::words(&Pack::read(mask).unwrap());
+        let extract = Lists::of(&Pack::read(&room.output[..answer[3] as usize]).unwrap());
+        assert!(extract == Some(lists.filter(&words)), "plain Rust and the port differ");
+        least(|| drop(black_box(black_box(&lists).filter(black_box(&words)))))
+    });
     let bytes = (answer[3] as usize).min(journal.len());
     let prepare = least(|| assert_eq!(entry::prepare(black_box(mask), None, false, &mut [], &mut answer), 0));
     let memcpy = least(|| black_box(&mut room.output[..bytes]).copy_from_slice(black_box(&journal[..bytes])));
     let row = |ns: f64| ns / rows as f64;
-    Cell { filter: row(filter), whole: row(whole), prepare: row(prepare), memcpy: row(memcpy) }
+    Cell { filter: row(filter), plain: plain.map(row), whole: row(whole), prepare: row(prepare), memcpy: row(memcpy) }
 }
 
 fn time_column(room: &mut Room, (name, rows, make): Column) -> Timed {
@@ -161,7 +176,7 @@ fn percent(density: usize) -> String {
 fn print_all(markdown: bool, columns: &[Timed]) {
     let title = |text: String| if markdown { println!("### {text}\n") } else { println!("{text}") };
     for (i, masks) in MASKS.iter().enumerate() {
-        title(format!("whole / (validation + filter), {masks} masks"));
+        title(format!("whole / (validation + filter), for lists whole / (validation + plain), {masks} masks"));
         let head = std::iter::once("column".into()).chain(DENSITIES.map(percent)).collect();
         let row =
             |c: &Timed| std::iter::once(c.name.into()).chain(c.cells[i].iter().map(|x| format!("{:.2}", c.ratio(x)))).collect();
@@ -169,12 +184,19 @@ fn print_all(markdown: bool, columns: &[Timed]) {
     }
     for c in columns {
         title(format!("{}: {} rows, {} bytes", c.name, c.rows, c.bytes));
-        let head = ["masks, kept", "filter", "validation", "both", "check", "prepare", "rest", "whole", "memcpy", "ratio"];
-        let mut table = vec![head.map(String::from).to_vec()];
+        let mut head =
+            vec!["masks, kept", "filter", "validation", "both", "check", "prepare", "rest", "whole", "memcpy", "ratio"];
+        let plain = c.cells[0][0].plain.is_some();
+        if plain {
+            head.insert(2, "plain");
+        }
+        let mut table = vec![head.into_iter().map(String::from).collect()];
         for (masks, cells) in MASKS.iter().zip(&c.cells) {
             for (density, x) in DENSITIES.iter().zip(cells) {
                 let rest = x.whole - c.check - x.prepare;
-                let times = [x.filter, c.validation, c.validation + x.filter, c.check, x.prepare, rest, x.whole, x.memcpy];
+                let mut times = vec![x.filter];
+                times.extend(x.plain);
+                times.extend([c.validation, c.both(x), c.check, x.prepare, rest, x.whole, x.memcpy]);
                 let mut row = vec![format!("{masks} {}", percent(*density))];
                 row.extend(times.iter().map(|ns| format!("{ns:.3}")));
                 row.push(format!("{:.2}", c.ratio(x)));
@@ -190,7 +212,8 @@ fn main() {
     let markdown = words.iter().any(|word| word == "--markdown");
     let named: Vec<&String> = words.iter().filter(|word| *word != "--markdown").collect();
     reuse_memory();
-    let mut room = Room { scratch: vec![0; ROW_LIMIT as usize / 8], output: vec![0; PACK_LIMIT] };
+    // two nodes, one below the other, each with a child of as many rows as a node may have
+    let mut room = Room { scratch: vec![0; 2 * ROW_LIMIT as usize / 8], output: vec![0; PACK_LIMIT] };
     let mut timed = vec![];
     for column in COLUMNS.iter().filter(|column| named.is_empty() || named.iter().any(|name| *name == column.0)) {
         eprintln!("{}", column.0);

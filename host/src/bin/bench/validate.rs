@@ -36,10 +36,11 @@ fn node<W: Way>(pack: &Pack, i: usize) -> bool {
     let rows = n.rows as usize;
     match (n.kind, n.param) {
         (BITS | NATIVE | FIXED | STRUCT, _) => true,
-        (BYTES, _) => {
+        (BYTES | LIST, _) => {
+            let end = if n.kind == LIST { pack.nodes[i + 1].rows } else { n.second_length };
             let offsets = fours(pack, n.first, rows + 1);
             let rising = W::all(offsets[..rows].iter().zip(&offsets[1..]).map(|(a, b)| signed(a) <= signed(b)));
-            rising & (signed(&offsets[0]) >= 0) & (signed(&offsets[rows]) <= n.second_length as i32)
+            rising & (signed(&offsets[0]) >= 0) & (signed(&offsets[rows]) <= end as i32)
         }
         (VIEWS, _) => views::<W>(pack, i),
         (LIST_VIEW, _) => {

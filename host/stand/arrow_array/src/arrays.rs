@@ -2,6 +2,7 @@
 use crate::types::*;
 use crate::{Array, ArrayRef, check_nulls};
 use arrow_buffer::{BooleanBuffer, Buffer, NullBuffer, OffsetBuffer, ScalarBuffer};
+use arrow_data::ArrayData;
 use arrow_schema::{ArrowError, DataType};
 use std::any::Any;
 use std::marker::PhantomData;
@@ -58,6 +59,11 @@ impl Array for BooleanArray {
     fn slice(&self, offset: usize, length: usize) -> ArrayRef {
         Arc::new(Self { values: self.values.slice(offset, length), nulls: self.nulls.as_ref().map(|n| n.slice(offset, length)) })
     }
+    fn to_data(&self) -> ArrayData {
+        let bits = self.values.inner().clone();
+        let offset = self.values.offset();
+        ArrayData { offset, ..ArrayData::new(&DataType::Boolean, self.len(), self.nulls(), vec![bits], vec![]) }
+    }
 }
 
 #[derive(Debug, Clone)]
@@ -110,6 +116,9 @@ impl<T: ArrowPrimitiveType> Array for PrimitiveArray<T> {
     fn slice(&self, offset: usize, length: usize) -> ArrayRef {
         Arc::new(self.sliced(offset, length))
     }
+    fn to_data(&self) -> ArrayData {
+        ArrayData::new(&self.data_type, self.len(), self.nulls(), vec![self.values.inner().clone()], vec![])
+    }
 }
 
 #[derive(Debug, Clone)]
@@ -158,6 +167,10 @@ impl<T: ByteArrayType> Array for GenericByteArray<T> {
             nulls: self.nulls.as_ref().map(|n| n.slice(offset, length)),
         })
     }
+    fn to_data(&self) -> ArrayData {
+        let buffers = vec![self.offsets.inner().inner().clone(), self.data.clone()];
+        ArrayData::new(&self.data_type, self.len(), self.nulls(), buffers, vec![])
+    }
 }
 
 #[derive(Debug, Clone)]
@@ -205,6 +218,10 @@ impl<T: ByteViewType> Array for GenericByteViewArray<T> {
             nulls: self.nulls.as_ref().map(|n| n.slice(offset, length)),
             phantom: PhantomData,
         })
+    }
+    fn to_data(&self) -> ArrayData {
+        let buffers = std::iter::once(self.views.inner()).chain(self.buffers.iter()).cloned().collect();
+        ArrayData::new(&self.data_type, self.len(), self.nulls(), buffers, vec![])
     }
 }
 
@@ -255,5 +272,8 @@ impl Array for FixedSizeBinaryArray {
             len: length,
             ..self.clone()
         })
+    }
+    fn to_data(&self) -> ArrayData {
+        ArrayData::new(&self.data_type, self.len, self.nulls(), vec![self.data.clone()], vec![])
     }
 }

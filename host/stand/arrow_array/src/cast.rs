@@ -1,7 +1,8 @@
 //! `as_*` views of a dynamic array; each panics on another type.
 use crate::types::*;
 use crate::{
-    Array, ArrayRef, FixedSizeBinaryArray, GenericByteArray, GenericByteViewArray, GenericListViewArray, StructArray, UnionArray,
+    Array, ArrayRef, FixedSizeBinaryArray, GenericByteArray, GenericByteViewArray, GenericListArray, GenericListViewArray,
+    StructArray, UnionArray,
 };
 
 pub trait AsArray {
@@ -21,6 +22,9 @@ pub trait AsArray {
     }
     fn as_fixed_size_binary(&self) -> &FixedSizeBinaryArray {
         self.array_any().downcast_ref().expect("fixed size binary array")
+    }
+    fn as_list<O: OffsetSizeTrait>(&self) -> &GenericListArray<O> {
+        self.array_any().downcast_ref().expect("list array")
     }
     fn as_list_view<O: OffsetSizeTrait>(&self) -> &GenericListViewArray<O> {
         self.array_any().downcast_ref().expect("list view array")

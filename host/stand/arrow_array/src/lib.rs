@@ -1,5 +1,6 @@
 //! Stand-in for arrow-array: array containers with the methods that filter.rs calls.
 mod arrays;
+mod data;
 mod macros;
 mod nested;
 pub mod types;
@@ -10,6 +11,7 @@ pub mod builder {
 pub mod cast;
 
 pub use arrays::*;
+pub use data::make_array;
 pub use nested::*;
 pub use types::*;
 
@@ -35,10 +37,8 @@ pub trait Array: Debug + Send + Sync {
     fn is_valid(&self, i: usize) -> bool {
         self.nulls().is_none_or(|n| n.is_valid(i))
     }
-    /// Only for the fallback, which is not stood in for.
-    fn to_data(&self) -> ArrayData {
-        ArrayData::not_stood_in_for()
-    }
+    /// The array taken apart, for the fallback.
+    fn to_data(&self) -> ArrayData;
 }
 
 pub type ArrayRef = Arc<dyn Array>;
@@ -59,11 +59,9 @@ impl Array for ArrayRef {
     fn slice(&self, offset: usize, length: usize) -> ArrayRef {
         self.as_ref().slice(offset, length)
     }
-}
-
-/// Only for the fallback, which is not stood in for.
-pub fn make_array(_data: ArrayData) -> ArrayRef {
-    unimplemented!("make_array is not stood in for")
+    fn to_data(&self) -> ArrayData {
+        self.as_ref().to_data()
+    }
 }
 
 /// Columns of one length.

@@ -3,9 +3,60 @@ use crate::arrays::*;
 use crate::types::*;
 use crate::{Array, ArrayRef, check_nulls};
 use arrow_buffer::{ArrowNativeType, BooleanBuffer, NullBuffer, OffsetBuffer, RunEndBuffer, ScalarBuffer};
+use arrow_data::ArrayData;
 use arrow_schema::{ArrowError, DataType, Field, FieldRef, Fields, UnionFields, UnionMode};
 use std::any::Any;
 use std::sync::Arc;
+
+#[derive(Debug, Clone)]
+pub struct GenericListArray<O: OffsetSizeTrait> {
+    data_type: DataType,
+    offsets: OffsetBuffer<O>,
+    values: ArrayRef,
+    nulls: Option<NullBuffer>,
+}
+
+impl<O: OffsetSizeTrait> GenericListArray<O> {
+    pub fn new(field: FieldRef, offsets: OffsetBuffer<O>, values: ArrayRef, nulls: Option<NullBuffer>) -> Self {
+        assert!(offsets.last().is_some_and(|end| end.as_usize() <= values.len()), "offsets lie within the values");
+        check_nulls(&nulls, offsets.len() - 1).unwrap();
+        let data_type = if O::IS_LARGE { DataType::LargeList(field) } else { DataType::List(field) };
+        Self { data_type, offsets, values, nulls }
+    }
+    pub fn value_offsets(&self) -> &[O] {
+        &self.offsets
+    }
+    pub fn values(&self) -> &ArrayRef {
+        &self.values
+    }
+}
+
+impl<O: OffsetSizeTrait> Array for GenericListArray<O> {
+    fn as_any(&self) -> &dyn Any {
+        self
+    }
+    fn data_type(&self) -> &DataType {
+        &self.data_type
+    }
+    fn len(&self) -> usize {
+        self.offsets.len() - 1
+    }
+    fn nulls(&self) -> Option<&NullBuffer> {
+        self.nulls.as_ref()
+    }
+    fn slice(&self, offset: usize, length: usize) -> ArrayRef {
+        Arc::new(Self {
+            data_type: self.data_type.clone(),
+            offsets: self.offsets.slice(offset, length),
+            values: self.values.clone(),
+            nulls: self.nulls.as_ref().map(|n| n.slice(offset, length)),
+        })
+    }
+    fn to_data(&self) -> ArrayData {
+        let offsets = self.offsets.inner().inner().clone();
+        ArrayData::new(&self.data_type, self.len(), self.nulls(), vec![offsets], vec![self.values.to_data()])
+    }
+}
 
 #[derive(Debug, Clone)]
 pub struct GenericListViewArray<O: OffsetSizeTrait> {
@@ -63,6 +114,10 @@ impl<O: OffsetSizeTrait> Array for GenericListViewArray<O> {
             values: self.values.clone(),
             nulls: self.nulls.as_ref().map(|n| n.slice(offset, length)),
         })
+    }
+    fn to_data(&self) -> ArrayData {
+        let buffers = vec![self.offsets.inner().clone(), self.sizes.inner().clone()];
+        ArrayData::new(&self.data_type, self.len(), self.nulls(), buffers, vec![self.values.to_data()])
     }
 }
 
@@ -125,6 +180,12 @@ impl<R: RunEndIndexType> Array for RunArray<R> {
             values: self.values.clone(),
         })
     }
+    fn to_data(&self) -> ArrayData {
+        let ends = self.run_ends.inner();
+        let ends = ArrayData::new(&R::DATA_TYPE, ends.len(), None, vec![ends.inner().clone()], vec![]);
+        let offset = self.run_ends.offset();
+        ArrayData { offset, ..ArrayData::new(&self.data_type, self.len(), None, vec![], vec![ends, self.values.to_data()]) }
+    }
 }
 
 #[derive(Debug, Clone)]
@@ -164,6 +225,10 @@ impl<K: ArrowDictionaryKeyType> Array for DictionaryArray<K> {
     }
     fn slice(&self, offset: usize, length: usize) -> ArrayRef {
         Arc::new(Self { data_type: self.data_type.clone(), keys: self.keys.sliced(offset, length), values: self.values.clone() })
+    }
+    fn to_data(&self) -> ArrayData {
+        let keys = self.keys.values().inner().clone();
+        ArrayData::new(&self.data_type, self.len(), self.nulls(), vec![keys], vec![self.values.to_data()])
     }
 }
 
@@ -220,6 +285,10 @@ impl Array for StructArray {
             nulls: self.nulls.as_ref().map(|n| n.slice(offset, length)),
             len: length,
         })
+    }
+    fn to_data(&self) -> ArrayData {
+        let columns = self.columns.iter().map(|c| c.to_data()).collect();
+        ArrayData::new(&self.data_type, self.len, self.nulls(), vec![], columns)
     }
 }
 
@@ -278,6 +347,10 @@ impl Array for UnionArray {
             children: self.children.iter().map(|c| c.slice(offset, length)).collect(),
         })
     }
+    fn to_data(&self) -> ArrayData {
+        let children = self.children.iter().map(|c| c.to_data()).collect();
+        ArrayData::new(&self.data_type, self.len(), None, vec![self.type_ids.inner().clone()], children)
+    }
 }
 
 fn no<T: ArrowNativeType>() -> ScalarBuffer<T> {
@@ -302,6 +375,11 @@ fn empty_list_view<O: OffsetSizeTrait>(field: &FieldRef) -> ArrayRef {
     Arc::new(unsafe { GenericListViewArray::<O>::new_unchecked(field.clone(), no(), no(), values, None) })
 }
 
+fn empty_list<O: OffsetSizeTrait>(field: &FieldRef) -> ArrayRef {
+    let zero = OffsetBuffer::new(vec![O::default()].into());
+    Arc::new(GenericListArray::<O>::new(field.clone(), zero, new_empty_array(field.data_type()), None))
+}
+
 /// An array of no rows.
 pub fn new_empty_array(data_type: &DataType) -> ArrayRef {
     crate::downcast_primitive! {
@@ -318,7 +396,8 @@ pub fn new_empty_array(data_type: &DataType) -> ArrayRef {
         },
         DataType::ListView(f) => empty_list_view::<i32>(f),
         DataType::LargeListView(f) => empty_list_view::<i64>(f),
-        DataType::List(_) => unimplemented!("lists are not stood in for"),
+        DataType::List(f) => empty_list::<i32>(f),
+        DataType::LargeList(f) => empty_list::<i64>(f),
         DataType::RunEndEncoded(ends, values) => {
             let values = new_empty_array(values.data_type());
             match ends.data_type() {

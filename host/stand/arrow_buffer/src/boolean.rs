@@ -33,6 +33,9 @@ impl BooleanBuffer {
     pub fn values(&self) -> &[u8] {
         &self.buffer
     }
+    pub fn inner(&self) -> &Buffer {
+        &self.buffer
+    }
     pub fn value(&self, i: usize) -> bool {
         assert!(i < self.len);
         bit_util::get_bit(&self.buffer, self.offset + i)

@@ -59,6 +59,9 @@ impl<O: ArrowNativeType> OffsetBuffer<O> {
     pub fn slice(&self, offset: usize, len: usize) -> Self {
         Self(self.0.slice(offset, len + 1))
     }
+    pub fn inner(&self) -> &ScalarBuffer<O> {
+        &self.0
+    }
 }
 
 impl<O: ArrowNativeType> Deref for OffsetBuffer<O> {

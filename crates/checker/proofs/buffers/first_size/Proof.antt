@@ -56,7 +56,13 @@ returns-12 : tie.Need-returns-12
 returns-12 c = (rw (c .enum-told12 .given .1), product-fits _ _ (c .before .before .fits .param .fits) (omega arith))
 
 returns-13 : tie.Need-returns-13
-returns-13 c = (rw (c .enum-told13 .given .1), omega arith)
+returns-13 c = (rw (c .enum-told13 .given .1) (omega arith), omega arith)
+
+returns-14 : tie.Need-returns-14
+returns-14 c = (rw (c .enum-told14 .given .1) (omega arith), omega arith)
+
+returns-15 : tie.Need-returns-15
+returns-15 c = (rw (c .enum-told15 .given .1), omega arith)
 
 pub first-size-spec : {M : Type 1} → statement M
-first-size-spec = tie.close (tie.spec (λ c. search needs) (λ c. search needs) (λ c. search needs) mul-result (λ c. search needs) mul-result-2 (λ c. search needs) (λ c. search needs) (λ c. search needs) (λ c. search needs) (λ c. search needs) (λ c. search needs) (λ c. search needs) (λ c. search needs) (λ c. search needs) (λ c. search needs) (λ c. search needs) (λ c. search needs) (λ c. search needs) mul-result-8 (λ c. search needs) (λ c. search needs) (λ c. search needs) mul-result-9 (λ c. search needs) returns returns-2 returns-3 returns-4 returns-5 returns-6 returns-7 returns-8 returns-9 returns-10 returns-11 returns-12 returns-13)
+first-size-spec = tie.close (tie.spec (λ c. search needs) (λ c. search needs) (λ c. search needs) mul-result (λ c. search needs) mul-result-2 (λ c. search needs) (λ c. search needs) (λ c. search needs) (λ c. search needs) (λ c. search needs) (λ c. search needs) (λ c. search needs) (λ c. search needs) (λ c. search needs) (λ c. search needs) (λ c. search needs) (λ c. search needs) (λ c. search needs) mul-result-8 (λ c. search needs) (λ c. search needs) (λ c. search needs) mul-result-9 (λ c. search needs) (λ c. search needs) (λ c. search needs) (λ c. search needs) (λ c. search needs) (λ c. search needs) (λ c. search needs) returns returns-2 returns-3 returns-4 returns-5 returns-6 returns-7 returns-8 returns-9 returns-10 returns-11 returns-12 returns-13 returns-14 returns-15)

@@ -4,7 +4,7 @@ use denote.Ref.{now}
 use mathlib.Core.Path.{_∙_, refl}
 use native.Mathlib.Omega.{arith}
 use Rattle.format.specs.Verdict.{badContent}
-use Rattle.checker.proofs.Inside.{Looked, ids-in, ids-is, keys-is, kind-is, lists32-in, lists32-is, lists64-in, lists64-is, nothing-is, offsets32-in, offsets32-is, offsets64-in, offsets64-is, places-few, runs-in, runs-is, views-in, views-is}
+use Rattle.checker.proofs.Inside.{Looked, ids-in, ids-is, keys-is, kind-is, lists32-in, lists32-is, lists64-in, lists64-is, nested32-in, nested32-is, nested64-in, nested64-is, nothing-is, offsets32-in, offsets32-is, offsets64-in, offsets64-is, places-few, runs-in, runs-is, views-in, views-is}
 use Rattle.checker.proofs.contents.bad_content.Statement.{statement}
 use Rattle.checker.proofs.contents.bad_content.Tie as tie
 
@@ -40,6 +40,12 @@ bad-keys8-requires c κs = ids-in (looked (c .before .before)) (c .enum-told11 .
 
 bad-dictionary-requires : tie.Need-bad-dictionary-requires
 bad-dictionary-requires c κs = let l = looked (c .before .before) in (l .laid, (l .inside, kind-is l (c .enum-told12 .given .1)))
+
+bad-offsets32-requires-2 : tie.Need-bad-offsets32-requires-2
+bad-offsets32-requires-2 c κs = nested32-in (looked (c .before .before)) (c .enum-told13 .given .1)
+
+bad-offsets64-requires-2 : tie.Need-bad-offsets64-requires-2
+bad-offsets64-requires-2 c κs = nested64-in (looked (c .before .before)) (c .enum-told14 .given .1)
 
 returns : tie.Need-returns
 unfolding badContent
@@ -82,8 +88,14 @@ returns-12 : tie.Need-returns-12
 returns-12 c = keys-is (looked (c .before .before .before)) (c .before .enum-told12 .given .1) (c .bad-dictionary .ensures)
 
 returns-13 : tie.Need-returns-13
+returns-13 c = c .bad-offsets322 .ensures ∙ nested32-is (looked (c .before .before .before)) (c .before .enum-told13 .given .1)
+
+returns-14 : tie.Need-returns-14
+returns-14 c = c .bad-offsets642 .ensures ∙ nested64-is (looked (c .before .before .before)) (c .before .enum-told14 .given .1)
+
+returns-15 : tie.Need-returns-15
 unfolding badContent
-returns-13 c = nothing-is (looked (c .before .before)) (c .enum-told13 .given .1) refl
+returns-15 c = nothing-is (looked (c .before .before)) (c .enum-told15 .given .1) refl
 
 pub bad-content-spec : {M : Type 1} → statement M
-bad-content-spec = tie.close (tie.spec (λ c κs. search needs) (λ c. search needs) (λ c. search needs) (λ c. search needs) (λ c. search needs) (λ c κs. search needs) (λ c κs. search needs) (λ c. search needs) (λ c. search needs) (λ c. search needs) (λ c. search needs) (λ c. search needs) (λ c. search needs) bad-offsets32-requires (λ c. search needs) (λ c. search needs) (λ c. search needs) bad-offsets64-requires (λ c. search needs) (λ c κs. search needs) (λ c. search needs) (λ c. search needs) (λ c. search needs) (λ c. search needs) (λ c. search needs) (λ c. search needs) bad-views-requires (λ c. search needs) (λ c. search needs) (λ c. search needs) (λ c. search needs) (λ c. search needs) bad-lists32-requires (λ c. search needs) (λ c. search needs) (λ c. search needs) (λ c. search needs) (λ c. search needs) bad-lists64-requires (λ c. search needs) (λ c. search needs) add-bad-runs bad-runs-requires (λ c. search needs) (λ c. search needs) (λ c. search needs) bad-keys8-requires (λ c. search needs) bad-dictionary-requires (λ c. search needs) returns returns-2 returns-3 returns-4 returns-5 returns-6 returns-7 returns-8 returns-9 returns-10 returns-11 returns-12 returns-13)
+bad-content-spec = tie.close (tie.spec (λ c κs. search needs) (λ c. search needs) (λ c. search needs) (λ c. search needs) (λ c. search needs) (λ c κs. search needs) (λ c κs. search needs) (λ c. search needs) (λ c. search needs) (λ c. search needs) (λ c. search needs) (λ c. search needs) (λ c. search needs) bad-offsets32-requires (λ c. search needs) (λ c. search needs) (λ c. search needs) bad-offsets64-requires (λ c. search needs) (λ c κs. search needs) (λ c. search needs) (λ c. search needs) (λ c. search needs) (λ c. search needs) (λ c. search needs) (λ c. search needs) bad-views-requires (λ c. search needs) (λ c. search needs) (λ c. search needs) (λ c. search needs) (λ c. search needs) bad-lists32-requires (λ c. search needs) (λ c. search needs) (λ c. search needs) (λ c. search needs) (λ c. search needs) bad-lists64-requires (λ c. search needs) (λ c. search needs) add-bad-runs bad-runs-requires (λ c. search needs) (λ c. search needs) (λ c. search needs) bad-keys8-requires (λ c. search needs) bad-dictionary-requires (λ c. search needs) (λ c. search needs) (λ c. search needs) bad-offsets32-requires-2 (λ c. search needs) (λ c. search needs) (λ c. search needs) bad-offsets64-requires-2 (λ c. search needs) returns returns-2 returns-3 returns-4 returns-5 returns-6 returns-7 returns-8 returns-9 returns-10 returns-11 returns-12 returns-13 returns-14 returns-15)

@@ -42,7 +42,13 @@ returns-12 : tie.Need-returns-12
 returns-12 c = row-is _ _ (c .before .before .before .before .node-at .ensures) (c .before .before .before .kind-of .ensures) (c .before .enum-told12 .given .1) (four _ _ _ _ _) refl (c .misfits12 .ensures)
 
 returns-13 : tie.Need-returns-13
-returns-13 c = no-kind _ _ (c .before .before .before .node-at .ensures) (c .before .before .kind-of .ensures) (c .enum-told13 .given .1)
+returns-13 c = row-is _ _ (c .before .before .before .before .node-at .ensures) (c .before .before .before .kind-of .ensures) (c .before .enum-told13 .given .1) refl refl (c .misfits13 .ensures)
+
+returns-14 : tie.Need-returns-14
+returns-14 c = row-is _ _ (c .before .before .before .before .node-at .ensures) (c .before .before .before .kind-of .ensures) (c .before .enum-told14 .given .1) refl refl (c .misfits14 .ensures)
+
+returns-15 : tie.Need-returns-15
+returns-15 c = no-kind _ _ (c .before .before .before .node-at .ensures) (c .before .before .kind-of .ensures) (c .enum-told15 .given .1)
 
 pub bad-fields-spec : {M : Type 1} → statement M
-bad-fields-spec = tie.close (tie.spec (λ c κs. search needs) (λ c κs. search needs) (λ c. search needs) (λ c κs. search needs) (λ c. search needs) (λ c κs. search needs) (λ c. search needs) (λ c κs. search needs) (λ c. search needs) (λ c κs. search needs) (λ c. search needs) (λ c κs. search needs) (λ c. search needs) (λ c κs. search needs) (λ c. search needs) (λ c κs. search needs) (λ c. search needs) (λ c κs. search needs) (λ c. search needs) (λ c κs. search needs) (λ c. search needs) (λ c κs. search needs) (λ c. search needs) (λ c κs. search needs) (λ c. search needs) (λ c κs. search needs) (λ c. search needs) returns returns-2 returns-3 returns-4 returns-5 returns-6 returns-7 returns-8 returns-9 returns-10 returns-11 returns-12 returns-13)
+bad-fields-spec = tie.close (tie.spec (λ c κs. search needs) (λ c κs. search needs) (λ c. search needs) (λ c κs. search needs) (λ c. search needs) (λ c κs. search needs) (λ c. search needs) (λ c κs. search needs) (λ c. search needs) (λ c κs. search needs) (λ c. search needs) (λ c κs. search needs) (λ c. search needs) (λ c κs. search needs) (λ c. search needs) (λ c κs. search needs) (λ c. search needs) (λ c κs. search needs) (λ c. search needs) (λ c κs. search needs) (λ c. search needs) (λ c κs. search needs) (λ c. search needs) (λ c κs. search needs) (λ c. search needs) (λ c κs. search needs) (λ c. search needs) (λ c κs. search needs) (λ c. search needs) (λ c κs. search needs) (λ c. search needs) returns returns-2 returns-3 returns-4 returns-5 returns-6 returns-7 returns-8 returns-9 returns-10 returns-11 returns-12 returns-13 returns-14 returns-15)

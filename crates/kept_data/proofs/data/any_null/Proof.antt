@@ -57,8 +57,8 @@ null-at-root-requires c κs = (c .before .before .before .before .before .before
 returns-2 : tie.Need-returns-2
 returns-2 c = c .null-at-root .ensures ∙ root-null (c .before .before .before .before .before .before .before .before .pre .1 .0) (c .before .before .before .before .before .before .before .before .pre .1 .1) (has-bitmap (c .before .before .before .before .before .before .before .before .pre .1 .0) (c .before .before .before .before .before .before .before .before .pre .1 .1) (c .before .before .before .before .if1 .left)) (slotOf _ _) _ (c .before .before .before .at-root .ensures .same (c .before .before .if2 .taken) _)
 
-null-by-rows-requires : tie.Need-null-by-rows-requires
-null-by-rows-requires c κs = (c .before .before .before .before .before .before .pre .0, (c .before .before .before .before .before .before .pre .1 .0, (c .before .before .before .before .before .before .pre .1 .1, has-bitmap (c .before .before .before .before .before .before .pre .1 .0) (c .before .before .before .before .before .before .pre .1 .1) (c .before .before .if1 .left))))
+null-by-stretches-requires : tie.Need-null-by-stretches-requires
+null-by-stretches-requires c κs = (c .before .before .before .before .before .before .pre .0, (c .before .before .before .before .before .before .pre .1 .0, (c .before .before .before .before .before .before .pre .1 .1, has-bitmap (c .before .before .before .before .before .before .pre .1 .0) (c .before .before .before .before .before .before .pre .1 .1) (c .before .before .if1 .left))))
 
 returns-3 : tie.Need-returns-3
 returns-3 c = search needs
@@ -83,5 +83,5 @@ any-null-spec =
     add-first-2
     null-at-root-requires
     returns-2
-    null-by-rows-requires
+    null-by-stretches-requires
     returns-3)

@@ -13,8 +13,8 @@ bytes-at-root-requires c κs = (c .before .before .before .before .pre .0 .0, (c
 returns : tie.Need-returns
 returns c = root-bytes _ _ _ (c .before .before .at-root .ensures) (c .before .if1 .taken) (c .bytes-at-root .ensures)
 
-bytes-by-rows-requires : tie.Need-bytes-by-rows-requires
-bytes-by-rows-requires c κs = search needs
+bytes-by-stretches-requires : tie.Need-bytes-by-stretches-requires
+bytes-by-stretches-requires c κs = search needs
 
 returns-2 : tie.Need-returns-2
 returns-2 c = search needs
@@ -22,4 +22,4 @@ returns-2 c = search needs
 pub text-bytes-spec : {M : Type 1} → statement M
 text-bytes-spec =
     tie.close
-    (tie.spec at-root-requires bytes-at-root-requires returns bytes-by-rows-requires returns-2)
+    (tie.spec at-root-requires bytes-at-root-requires returns bytes-by-stretches-requires returns-2)

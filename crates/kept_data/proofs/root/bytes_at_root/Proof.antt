@@ -1,18 +1,16 @@
 -- `kept_data::root::bytes_at_root` meets its contract. The loop's invariant: n is the bytes of the rows picked in the first i words. Assumes nothing.
 use native.Mathlib.Omega.{arith}
-use borrow.Author.Needs.{needs}
 use Prim.Native.Nat.{_≤_, _+_, _-_, _*_}
 use mathlib.Core.Logic.{⊎-elim}
-use mathlib.Core.Path.{_≡_, sym, _∙_}
-use native.Mathlib.Nat.{add-zero}
+use mathlib.Core.Path.{_≡_, _∙_}
 use Rattle.format.specs.Bytes.{chosen}
-use Rattle.format.proofs.RowLaws.{set-none}
 use Rattle.slots.specs.Source.{slotOf, wordAt}
 use Rattle.slots.proofs.Reading.{slot-past}
-use Rattle.kept_data.specs.Spans.{offsetFrom, spans}
+use Rattle.spans.specs.Spans.{offsetFrom, spans}
+use Rattle.spans.proofs.ByWords.{no-words, rising-word, word-small, word-fits, word-more, word-none}
 use Rattle.nesting.proofs.Sieve.{node-few, skip-fits}
 use Rattle.kept_data.proofs.Texts.{first-fits, offset-lies}
-use Rattle.kept_data.proofs.Spanned.{no-words, spans-none, rising-word, word-small, word-fits, word-more, all-words}
+use Rattle.kept_data.proofs.TextSpans.{text-laid, all-words}
 use Rattle.kept_data.proofs.root.bytes_at_root.Statement.{statement}
 use Rattle.kept_data.proofs.root.bytes_at_root.Tie as tie
 
@@ -60,7 +58,7 @@ add-first-3 : tie.Need-add-first-3 Inv-loop μ-loop
 add-first-3 c = omega (arith, offset-lies (c .before .before .before .before .pre .1 .0) (c .before .before .before .before .pre .1 .1 .0) (c .before .before .before .before .pre .1 .1 .2) 0 (omega arith))
 
 loop-holds : tie.Need-loop-holds Inv-loop μ-loop
-loop-holds c = (omega arith, no-words (c .before .before .before .before .pre .1 .0) (c .before .before .before .before .pre .1 .1 .0) (c .before .before .before .before .pre .1 .1 .2) (c .before .before .before .before .pre .1 .1 .3) (λ j h. slot-past _ _ j h))
+loop-holds c = (omega arith, no-words _ _)
 
 mul-loop : tie.Need-mul-loop Inv-loop μ-loop
 mul-loop c = omega (arith, c .before .before .before .before .before .pre .0 .small, c .before .before .before .before .before .pre .0 .values)
@@ -89,28 +87,29 @@ mul-base c = omega (arith, c .before .before .before .before .before .before .be
 add-i : tie.Need-add-i Inv-loop μ-loop
 add-i c = omega (arith, c .before .before .before .before .before .before .before .pre .0 .small, c .before .before .before .before .before .before .before .pre .0 .values)
 
-word-bytes-requires : tie.Need-word-bytes-requires Inv-loop μ-loop
-word-bytes-requires c κs =
-    let m = 64 * c .before .before .before .loop .i in (
-      c .before .before .before .before .before .before .before .before .pre .1 .1 .1,
-      (
-        rising-word (c .before .before .before .before .before .before .before .before .pre .1 .0) (c .before .before .before .before .before .before .before .before .pre .1 .1 .0) (c .before .before .before .before .before .before .before .before .pre .1 .1 .2) (c .before .before .before .before .before .before .before .before .pre .1 .1 .3) (λ j h. slot-past _ _ j h) m (is-word (c .before)),
-        word-small (c .before .before .before .before .before .before .before .before .pre .1 .0) (c .before .before .before .before .before .before .before .before .pre .1 .1 .0) (c .before .before .before .before .before .before .before .before .pre .1 .1 .2) (c .before .before .before .before .before .before .before .before .pre .1 .1 .3) (λ j h. slot-past _ _ j h) m (is-word (c .before)),
-      ),
-    )
+word-spans-requires : tie.Need-word-spans-requires Inv-loop μ-loop
+word-spans-requires c κs =
+    let pre = c .before .before .before .before .before .before .before .before .pre .1 in
+    let m = 64 * c .before .before .before .loop .i in
+    let laid = text-laid (pre .0) (pre .1 .0) (pre .1 .2) (pre .1 .3) in
+    (pre .1 .1, (rising-word laid (λ j h. slot-past _ _ j h) m (is-word (c .before)), word-small laid (λ j h. slot-past _ _ j h) m (is-word (c .before))))
 
 add-n : tie.Need-add-n Inv-loop μ-loop
 add-n c =
-    let m = 64 * c .before .before .before .before .loop .i in
-    omega (arith, word-fits (c .before .before .before .before .before .before .before .before .before .pre .1 .0) (c .before .before .before .before .before .before .before .before .before .pre .1 .1 .0) (c .before .before .before .before .before .before .before .before .before .pre .1 .1 .2) (c .before .before .before .before .before .before .before .before .before .pre .1 .1 .3) (λ j h. slot-past _ _ j h) m (is-word (c .before .before)) (c .before .before .before .before .loop .inv .1) (c .word-bytes .ensures))
+    let pre = c .before .before .before .before .before .before .before .before .before .pre .1 in
+    let laid = text-laid (pre .0) (pre .1 .0) (pre .1 .2) (pre .1 .3) in
+    record {
+      fits = word-fits laid (λ j h. slot-past _ _ j h) (64 * c .before .before .before .before .loop .i) (is-word (c .before .before)) (c .before .before .before .before .loop .inv .1) (c .word-spans .ensures);
+    }
 
 loop-less : tie.Need-loop-less Inv-loop μ-loop
 loop-less c = omega arith
 
 loop-again : tie.Need-loop-again Inv-loop μ-loop
 loop-again c =
-    let m = 64 * c .before .before .before .before .loop .i in
-    (omega arith, word-more (c .before .before .before .before .before .before .before .before .before .pre .1 .0) (c .before .before .before .before .before .before .before .before .before .pre .1 .1 .0) (c .before .before .before .before .before .before .before .before .before .pre .1 .1 .2) (c .before .before .before .before .before .before .before .before .before .pre .1 .1 .3) (λ j h. slot-past _ _ j h) m (is-word (c .before .before)) (c .before .before .before .before .loop .inv .1) (c .word-bytes .ensures) _ (omega arith))
+    let pre = c .before .before .before .before .before .before .before .before .before .pre .1 in
+    let laid = text-laid (pre .0) (pre .1 .0) (pre .1 .2) (pre .1 .3) in
+    (omega arith, word-more laid (λ j h. slot-past _ _ j h) (64 * c .before .before .before .before .loop .i) (is-word (c .before .before)) (c .before .before .before .before .loop .inv .1) (c .word-spans .ensures) _ (omega arith))
 
 loop-less-2 : tie.Need-loop-less-2 Inv-loop μ-loop
 loop-less-2 c = omega arith
@@ -118,12 +117,14 @@ loop-less-2 c = omega arith
 -- an empty word has no bytes
 loop-again-2 : tie.Need-loop-again-2 Inv-loop μ-loop
 loop-again-2 c =
-    let m = 64 * c .before .before .before .loop .i in
-    let more = word-more (c .before .before .before .before .before .before .before .before .pre .1 .0) (c .before .before .before .before .before .before .before .before .pre .1 .1 .0) (c .before .before .before .before .before .before .before .before .pre .1 .1 .2) (c .before .before .before .before .before .before .before .before .pre .1 .1 .3) (λ j h. slot-past _ _ j h) m (is-word (c .before)) (c .before .before .before .loop .inv .1) (sym (spans-none _ _ (set-none m _ (c .if2 .left)))) (64 * (c .before .before .before .loop .i + 1)) (omega arith) in
-    (omega arith, sym (add-zero _) ∙ more)
+    let pre = c .before .before .before .before .before .before .before .before .pre .1 in
+    let laid = text-laid (pre .0) (pre .1 .0) (pre .1 .2) (pre .1 .3) in
+    (omega arith, word-none laid (λ j h. slot-past _ _ j h) (64 * c .before .before .before .loop .i) (is-word (c .before)) (c .if2 .left) (c .before .before .before .loop .inv .1) _ (omega arith))
 
 returns : tie.Need-returns Inv-loop μ-loop
-returns c = all-words (c .before .before .before .before .before .before .pre .1 .0) (c .before .before .before .before .before .before .pre .1 .1 .0) (c .before .before .before .before .before .before .pre .1 .1 .2) (c .before .before .before .before .before .before .pre .1 .1 .3) (λ j h. slot-past _ _ j h) (64 * c .before .loop .i) (omega arith) (c .before .loop .inv .1)
+returns c =
+    let pre = c .before .before .before .before .before .before .pre .1 in
+    all-words (pre .0) (pre .1 .0) (pre .1 .2) (pre .1 .3) (λ j h. slot-past _ _ j h) (64 * c .before .loop .i) (omega arith) (c .before .loop .inv .1)
 
 pub bytes-at-root-spec : {M : Type 1} → statement M
 bytes-at-root-spec =
@@ -151,7 +152,7 @@ bytes-at-root-spec =
     word-requires
     mul-base
     add-i
-    word-bytes-requires
+    word-spans-requires
     add-n
     loop-less
     loop-again

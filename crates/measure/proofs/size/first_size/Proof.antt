@@ -81,6 +81,24 @@ mul-result-9 c = omega (arith, few-bytes (c .before .before .args .p) (c .before
 enum-told-13 : tie.Need-enum-told-13
 enum-told-13 c = search needs
 
+add-result-3 : tie.Need-add-result-3
+add-result-3 c = search needs
+
+mul-result-10 : tie.Need-mul-result-10
+mul-result-10 c = search needs
+
+enum-told-14 : tie.Need-enum-told-14
+enum-told-14 c = search needs
+
+add-result-4 : tie.Need-add-result-4
+add-result-4 c = search needs
+
+mul-result-11 : tie.Need-mul-result-11
+mul-result-11 c = search needs
+
+enum-told-15 : tie.Need-enum-told-15
+enum-told-15 c = search needs
+
 returns : tie.Need-returns
 returns c = rw (c .before .enum-told .given .1) (c .bytes-for .ensures)
 
@@ -118,7 +136,13 @@ returns-12 : tie.Need-returns-12
 returns-12 c = rw (c .enum-told12 .given .1)
 
 returns-13 : tie.Need-returns-13
-returns-13 c = search needs
+returns-13 c = rw (c .enum-told13 .given .1, add-one (c .before .before .args .n))
+
+returns-14 : tie.Need-returns-14
+returns-14 c = rw (c .enum-told14 .given .1, add-one (c .before .before .args .n))
+
+returns-15 : tie.Need-returns-15
+returns-15 c = search needs
 
 pub first-size-spec : {M : Type 1} → statement M
 first-size-spec =
@@ -149,6 +173,12 @@ first-size-spec =
     enum-told-12
     mul-result-9
     enum-told-13
+    add-result-3
+    mul-result-10
+    enum-told-14
+    add-result-4
+    mul-result-11
+    enum-told-15
     returns
     returns-2
     returns-3
@@ -161,4 +191,6 @@ first-size-spec =
     returns-10
     returns-11
     returns-12
-    returns-13)
+    returns-13
+    returns-14
+    returns-15)

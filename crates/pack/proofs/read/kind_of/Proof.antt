@@ -1,4 +1,4 @@
--- `pack::read::kind_of` meets its contract: each arm is told its number by `keys`; what is left up to 12 is 0. Assumes nothing.
+-- `pack::read::kind_of` meets its contract: each arm is told its number by `keys`; what is left up to 14 is 0. Assumes nothing.
 use Prim.Native.Nat.{_≤_, suc, ℕ}
 use mathlib.Core.Path.{_≡_, sym}
 use native.Mathlib.Decide.{ℕ-discrete}
@@ -73,7 +73,15 @@ returns-13 c = rw (c .match .keys12)
 
 returns-14 : tie.Need-returns-14
 unfolding kindOf
-returns-14 c = let r = c .match .rest in rw (le-zero (not-top (not-top (not-top (not-top (not-top (not-top (not-top (not-top (not-top (not-top (not-top (not-top (omega arith) (r .1)) (r .0 .1)) (r .0 .0 .1)) (r .0 .0 .0 .1)) (r .0 .0 .0 .0 .1)) (r .0 .0 .0 .0 .0 .1)) (r .0 .0 .0 .0 .0 .0 .1)) (r .0 .0 .0 .0 .0 .0 .0 .1)) (r .0 .0 .0 .0 .0 .0 .0 .0 .1)) (r .0 .0 .0 .0 .0 .0 .0 .0 .0 .1)) (r .0 .0 .0 .0 .0 .0 .0 .0 .0 .0 .1)) (r .0 .0 .0 .0 .0 .0 .0 .0 .0 .0 .0 .1)))
+returns-14 c = rw (c .match .keys13)
+
+returns-15 : tie.Need-returns-15
+unfolding kindOf
+returns-15 c = rw (c .match .keys14)
+
+returns-16 : tie.Need-returns-16
+unfolding kindOf
+returns-16 c = let r = c .match .rest in rw (le-zero (not-top (not-top (not-top (not-top (not-top (not-top (not-top (not-top (not-top (not-top (not-top (not-top (not-top (not-top (omega arith) (r .1)) (r .0 .1)) (r .0 .0 .1)) (r .0 .0 .0 .1)) (r .0 .0 .0 .0 .1)) (r .0 .0 .0 .0 .0 .1)) (r .0 .0 .0 .0 .0 .0 .1)) (r .0 .0 .0 .0 .0 .0 .0 .1)) (r .0 .0 .0 .0 .0 .0 .0 .0 .1)) (r .0 .0 .0 .0 .0 .0 .0 .0 .0 .1)) (r .0 .0 .0 .0 .0 .0 .0 .0 .0 .0 .1)) (r .0 .0 .0 .0 .0 .0 .0 .0 .0 .0 .0 .1)) (r .0 .0 .0 .0 .0 .0 .0 .0 .0 .0 .0 .0 .1)) (r .0 .0 .0 .0 .0 .0 .0 .0 .0 .0 .0 .0 .0 .1)))
 
 pub kind-of-spec : {M : Type 1} → statement M
-kind-of-spec = tie.close (tie.spec returns returns-2 returns-3 returns-4 returns-5 returns-6 returns-7 returns-8 returns-9 returns-10 returns-11 returns-12 returns-13 returns-14)
+kind-of-spec = tie.close (tie.spec returns returns-2 returns-3 returns-4 returns-5 returns-6 returns-7 returns-8 returns-9 returns-10 returns-11 returns-12 returns-13 returns-14 returns-15 returns-16)

@@ -1,0 +1,2 @@
+-- The sizes of list rows that the writers' contracts name.
+pub mod Spans

@@ -1,0 +1,2 @@
+-- Laws of the child rows of picked valid rows.
+pub mod Counts

@@ -1,0 +1,2 @@
+-- Stretches of rows that are alike, and what is kept in mind of them.
+pub mod Stretches
