@@ -23,10 +23,6 @@ use Rattle.marks.proofs.Stored.{getD-slots}
 
 -- ---- a byte made row by row
 
-byte-one : (t : Bool) → boolByte t ≡ one t
-byte-one true = refl
-byte-one false = refl
-
 module _ (p : ℕ → Bool) where
   pub word-none : (to : ℕ) → 0 ≡ wordFrom p (to - to) to
   unfolding wordFrom slotsFrom wordOf

@@ -25,7 +25,7 @@ use nesting::table::run_start;
 use pack::read::less;
 use slots::Bits;
 
-// Nothing is in mind yet.
+// Nothing is in mind yet: four numbers for each of the 64 nodes that a pack may have.
 pub fn none_told() -> [usize; 256]
     ensures { λ r. ⌜ r ≡ replicate 256 0 ⌝ }
 {
