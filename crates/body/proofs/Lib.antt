@@ -1,3 +1,4 @@
 -- Laws of this crate.
 pub mod KeptLaws
 pub mod SelectLaws
+pub mod Listed

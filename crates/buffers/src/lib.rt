@@ -5,7 +5,7 @@ ghost use lib.ListN.{length};
 ghost use Rattle.format.specs.Bytes.{packed};
 ghost use Rattle.format.specs.Write.{holds, numbers, offsets};
 ghost use Rattle.append.specs.Cells.{entriesOf, Entries};
-ghost use Rattle.texts.specs.Texts.{offset, sizesOf, textsOf, Offsets, Texts};
+ghost use Rattle.texts.specs.Texts.{offset, startIn, sizesOf, textsOf, Offsets, Texts};
 ghost use Rattle.list_columns.specs.Spans.{reach, Spans};
 ghost use Rattle.bitmaps.specs.Push.{bitFrom};
 ghost use Rattle.runs.specs.Groups.{EndsLie, sizeAt, endBytes};
@@ -78,39 +78,6 @@ pub fn put_offsets32(
     }
 }
 
-// The own bytes of the kept rows, whose data starts at `data_at`.
-pub fn put_texts32(
-    out: &mut [u8],
-    at: usize,
-    journal: &[u8],
-    place: usize,
-    data_at: usize,
-    sel: Selection,
-    s: &[u8],
-    mask: Bits,
-    list: &[u32],
-) -> Placed
-    requires { ⌜ Readable sel (now s) mask ⌝ }
-    requires { ⌜ Holds sel (keptBy sel (now s) mask) (mask .len) (now list) ⌝ }
-    requires { ⌜ Texts 4 (now journal) place «data_at» (mask .len) ⌝ }
-    requires { ⌜ at + length (appended at (holds (textsOf (offset 4 (now journal) place) (now journal) «data_at» (rowsBy sel (now s) mask)))) ≤ length (now out) ⌝ }
-    ensures { λ r. ⌜ Puts 0 (holds (textsOf (offset 4 (now (journal .entry)) place) (now (journal .entry)) «data_at» (rowsBy sel (now (s .entry)) mask))) (now (out .entry)) at (now (out .exit)) r ⌝ }
-{
-    let start = append::fields::pad(out, at);
-    let next = text_columns::filter_texts32(
-        out,
-        start,
-        journal,
-        place,
-        data_at,
-        sel,
-        s,
-        mask,
-        list,
-    );
-    Placed { start, next }
-}
-
 // The offsets of the kept rows rebuilt from 0, 8 bytes each, row 0's at `place`.
 pub fn put_offsets64(
     out: &mut [u8],
@@ -136,13 +103,15 @@ pub fn put_offsets64(
     }
 }
 
-// The own bytes of the kept rows, whose data starts at `data_at`.
-pub fn put_texts64(
+// The own bytes of the kept rows, by offsets of w bytes, row 0's at `place`; the data are entries of u bytes from `data_at` on.
+pub fn put_texts(
     out: &mut [u8],
     at: usize,
     journal: &[u8],
     place: usize,
+    w: usize,
     data_at: usize,
+    u: usize,
     sel: Selection,
     s: &[u8],
     mask: Bits,
@@ -150,17 +119,19 @@ pub fn put_texts64(
 ) -> Placed
     requires { ⌜ Readable sel (now s) mask ⌝ }
     requires { ⌜ Holds sel (keptBy sel (now s) mask) (mask .len) (now list) ⌝ }
-    requires { ⌜ Texts 8 (now journal) place «data_at» (mask .len) ⌝ }
-    requires { ⌜ at + length (appended at (holds (textsOf (offset 8 (now journal) place) (now journal) «data_at» (rowsBy sel (now s) mask)))) ≤ length (now out) ⌝ }
-    ensures { λ r. ⌜ Puts 0 (holds (textsOf (offset 8 (now (journal .entry)) place) (now (journal .entry)) «data_at» (rowsBy sel (now (s .entry)) mask))) (now (out .entry)) at (now (out .exit)) r ⌝ }
+    requires { ⌜ Texts u w (now journal) place «data_at» (mask .len) ⌝ }
+    requires { ⌜ at + length (appended at (holds (textsOf (startIn u w (now journal) place) (now journal) «data_at» (rowsBy sel (now s) mask)))) ≤ length (now out) ⌝ }
+    ensures { λ r. ⌜ Puts 0 (holds (textsOf (startIn u w (now (journal .entry)) place) (now (journal .entry)) «data_at» (rowsBy sel (now (s .entry)) mask))) (now (out .entry)) at (now (out .exit)) r ⌝ }
 {
     let start = append::fields::pad(out, at);
-    let next = text_columns::filter_texts64(
+    let next = text_columns::filter_texts(
         out,
         start,
         journal,
         place,
+        w,
         data_at,
+        u,
         sel,
         s,
         mask,

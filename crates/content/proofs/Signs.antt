@@ -1,11 +1,13 @@
 -- Tests by sign bits. A comparison of 64 bits is slow on vectors, but a difference of two numbers that are not negative has its top bit
--- set just where the first is the smaller: such a loop joins by bits what it sees, and looks at the top bit once, at the end. Assumes nothing.
+-- set just where the first is the smaller: such a loop joins by bits what it sees, and looks at the top bit once, at the end. One of 32 bits
+-- is quick if it is signed: that of two numbers with their sign bit turned. Assumes nothing.
 use Prim.Native.Nat.{ℕ, suc, _+_, _-_, _*_, _^_, _%_, _≤_, _<_, min}
 use mathlib.Core.Bool.{Bool, true, false, _&&_, _||_, or-assoc, or-comm, or-false, or-true}
 use mathlib.Core.List.{List}
 use mathlib.Core.Logic.{⊎-elim, dite}
 use mathlib.Core.Path.{_≡_, refl, sym, ap, ap₂, _∙_}
 use native.Mathlib.Decide.{decLe}
+use native.Mathlib.Nat.{mod-lt, mod-eq-of-lt}
 use native.Mathlib.Omega.{arith}
 use borrow.Author.Tests.{le-leb, lt-leb, lt-ltb, le-ltb, leb-false}
 use lib.Bits.{bitAnd, bitOr, and-le-l, and-le-r, and-self, and-block, or-lt, or-add-and}
@@ -58,51 +60,93 @@ module _ (h m low high d : ℕ) (half : m ≡ h + h) (hl : low < h) (hd : d < m)
       (wrapped m c 1 d hc (omega arith) f))
       (wrapped m d low high hd (omega arith) e))
 
--- before turn i: the top bit says that the first number is negative or a row before i is bad; else number i is not negative
+-- the same by p and q, the numbers with their sign bit turned
+falls-turned : (h m low high p q : ℕ) → m ≡ h + h → low < h → high < m → p ≡ (high + h) % m → q ≡ (low + h) % m → ltb p q ≡ (leb h high || ltb high low)
+falls-turned h m low high p q half hl hh ep eq =
+    let lq : q ≡ low + h = eq ∙ mod-eq-of-lt (omega arith) in
+    ⊎-elim
+    (λ (e : high + h ≡ p).
+    let small : (high + h) % m < m = mod-lt (high + h) (omega arith) in
+    let lh : high < h = omega arith in
+    dite (decLe low high)
+    (λ g. rw (lt-leb h high lh, le-ltb p q (omega arith), le-ltb high low g))
+    (λ g. rw (lt-leb h high lh, lt-ltb p q (omega arith), lt-ltb high low (omega arith))))
+    (λ (e : high + h ≡ p + m). rw (lt-ltb p q (omega arith), le-leb h high (omega arith)))
+    (wrapped m high h p hh (omega arith) (sym ep))
+
+-- before turn i: the flag says that the first number is negative or a row before i is bad; else number i is not negative
+pub record Flagged (k : ℕ) (x : ℕ → ℕ) (bad : ℕ → Bool) (t : Bool) (i : ℕ) : Type 0 where
+  pub flag : t ≡ (leb (2 ^ k) (x 0) || anyBelow bad i)
+  pub plain : t ≡ false → x i < 2 ^ k
+
+-- the same where the flag is a top bit
 pub record Signs (k : ℕ) (x : ℕ → ℕ) (bad : ℕ → Bool) (top i : ℕ) : Type 0 where
-  pub flag : leb (2 ^ k) top ≡ (leb (2 ^ k) (x 0) || anyBelow bad i)
-  pub plain : leb (2 ^ k) top ≡ false → x i < 2 ^ k
+  pub flagged : Flagged k x bad (leb (2 ^ k) top) i
 
 module _ (k : ℕ) (x : ℕ → ℕ) (bad : ℕ → Bool) where
-  pub signs-start : (top : ℕ) → top ≡ x 0 → Signs k x bad top 0
+  pub flag-start : (first : ℕ) → first ≡ x 0 → Flagged k x bad (leb (2 ^ k) first) 0
   unfolding anyBelow
-  signs-start top e = record { flag = rw e (sym (or-false (leb (2 ^ k) (x 0)))); plain = λ f. leb-false _ _ (rw e at f) }
+  flag-start first e = record { flag = rw e (sym (or-false (leb (2 ^ k) (x 0)))); plain = λ f. leb-false _ _ (rw e at f) }
 
-  signs-more : (top i j high d : ℕ) → Signs k x bad top i → j ≡ i + 1 → high ≡ x j
-      → (x i < 2 ^ k → (leb (2 ^ k) high || leb (2 ^ k) d) ≡ bad i)
-      → Signs k x bad (bitOr (bitOr top high) d) j
-  unfolding anyBelow
-  signs-more top i j high d s n eh same =
+  flag-more : (t u : Bool) (i j : ℕ) → Flagged k x bad t i → j ≡ i + 1 → (x i < 2 ^ k → u ≡ bad i) → (bad i ≡ false → x j < 2 ^ k) → Flagged k x bad (t || u) j
+  flag-more t u i j s n same next =
       record {
         flag =
-            joined
-            ∙ go (leb (2 ^ k) top) refl
+            go t refl
             ∙ ap (_|| bad i) (s .flag)
             ∙ or-assoc (leb (2 ^ k) (x 0)) (anyBelow bad i) (bad i)
             ∙ ap (leb (2 ^ k) (x 0) ||_) (any-more bad i j refl refl n);
-        plain = λ f. rw (sym eh) (leb-false (2 ^ k) high (or-left (leb (2 ^ k) high) (leb (2 ^ k) d) (or-right (leb (2 ^ k) top) _ (sym joined ∙ f))));
+        plain = λ f. next (sym (same (s .plain (or-left t u f))) ∙ or-right t u f);
       }
+    where
+      go : (b : Bool) → t ≡ b → (t || u) ≡ (t || bad i)
+      go true e = rw e
+      go false e = rw (e, same (s .plain e))
+
+  pub flag-end : (t : Bool) (i n : ℕ) → Flagged k x bad t i → i ≤ n → n ≤ i → t ≡ (leb (2 ^ k) (x 0) || anyBelow bad n)
+  flag-end t i n s l g = let e : i ≡ n = omega arith in rw e at (s .flag)
+
+  pub signs-start : (top : ℕ) → top ≡ x 0 → Signs k x bad top 0
+  signs-start top e = record { flagged = flag-start top e }
+
+  signs-more : (top i j high d : ℕ) → Signs k x bad top i → j ≡ i + 1
+      → (x i < 2 ^ k → (leb (2 ^ k) high || leb (2 ^ k) d) ≡ bad i) → (bad i ≡ false → x j < 2 ^ k)
+      → Signs k x bad (bitOr (bitOr top high) d) j
+  signs-more top i j high d s n same next = record { flagged = rw joined (flag-more (leb (2 ^ k) top) (leb (2 ^ k) high || leb (2 ^ k) d) i j (s .flagged) n same next) }
     where
       joined : leb (2 ^ k) (bitOr (bitOr top high) d) ≡ (leb (2 ^ k) top || (leb (2 ^ k) high || leb (2 ^ k) d))
       joined = top-or k (bitOr top high) d ∙ ap (_|| leb (2 ^ k) d) (top-or k top high) ∙ or-assoc (leb (2 ^ k) top) (leb (2 ^ k) high) (leb (2 ^ k) d)
 
-      go : (t : Bool) → leb (2 ^ k) top ≡ t → (leb (2 ^ k) top || (leb (2 ^ k) high || leb (2 ^ k) d)) ≡ (leb (2 ^ k) top || bad i)
-      go true e = rw e
-      go false e = rw (e, same (s .plain e))
-
   pub signs-end : (top i n : ℕ) → Signs k x bad top i → i ≤ n → n ≤ i → leb (2 ^ k) top ≡ (leb (2 ^ k) (x 0) || anyBelow bad n)
-  signs-end top i n s l g = let e : i ≡ n = omega arith in rw e at (s .flag)
+  signs-end top i n s l g = flag-end (leb (2 ^ k) top) i n (s .flagged) l g
 
 -- offsets, run ends and list views of w bytes
 module _ (w m : ℕ) (b : List ℕ) (at : ℕ) (half : m ≡ 2 ^ (8 * w - 1) + 2 ^ (8 * w - 1)) where
+  -- number j is not negative where the test of it and the one before did not find so
+  not-negative : (i j : ℕ) (t : Bool) → j ≡ i + 1 → (negative w (number w b at (suc i)) || t) ≡ false → number w b at j < 2 ^ (8 * w - 1)
+  unfolding negative
+  not-negative i j t n f = let n′ : j ≡ suc i = omega arith in rw n′ (leb-false _ _ (or-left _ t f))
+
+  -- by numbers p and q whose sign bit was turned
+  pub turned-more : (t : Bool) (i j low high p q : ℕ) → Flagged (8 * w - 1) (number w b at) (falls w b at) t i → j ≡ i + 1
+      → low ≡ le w b (at + w * i) → high ≡ le w b (at + w * j) → high < m → p ≡ (high + 2 ^ (8 * w - 1)) % m → q ≡ (low + 2 ^ (8 * w - 1)) % m
+      → Flagged (8 * w - 1) (number w b at) (falls w b at) (t || ltb p q) j
+  unfolding falls number negative
+  turned-more t i j low high p q s n el eh hh ep eq =
+      let n′ : j ≡ suc i = omega arith in
+      flag-more (8 * w - 1) (number w b at) (falls w b at) t (ltb p q) i j s n
+      (λ h. falls-turned (2 ^ (8 * w - 1)) m low high p q half (rw el h) hh ep eq ∙ rw (el, eh, n′))
+      (not-negative i j _ n)
+
   pub fall-more : (top i j low high d : ℕ) → Signs (8 * w - 1) (number w b at) (falls w b at) top i → j ≡ i + 1
       → low ≡ le w b (at + w * i) → high ≡ le w b (at + w * j) → d < m → (d + low) % m ≡ high
       → Signs (8 * w - 1) (number w b at) (falls w b at) (bitOr (bitOr top high) d) j
   unfolding falls number negative
   fall-more top i j low high d s n el eh hd e =
       let n′ : j ≡ suc i = omega arith in
-      signs-more (8 * w - 1) (number w b at) (falls w b at) top i j high d s n eh
+      signs-more (8 * w - 1) (number w b at) (falls w b at) top i j high d s n
       (λ h. falls-by-sign (2 ^ (8 * w - 1)) m low high d half (rw el h) hd e ∙ rw (el, eh, n′))
+      (not-negative i j _ n)
 
   pub stall-more : (top i j low high d c : ℕ) → Signs (8 * w - 1) (number w b at) (stalls w b at) top i → j ≡ i + 1
       → low ≡ le w b (at + w * i) → high ≡ le w b (at + w * j) → d < m → (d + low) % m ≡ high → c < m → (c + 1) % m ≡ d
@@ -110,8 +154,9 @@ module _ (w m : ℕ) (b : List ℕ) (at : ℕ) (half : m ≡ 2 ^ (8 * w - 1) + 2
   unfolding stalls number negative
   stall-more top i j low high d c s n el eh hd e hc f =
       let n′ : j ≡ suc i = omega arith in
-      signs-more (8 * w - 1) (number w b at) (stalls w b at) top i j high c s n eh
+      signs-more (8 * w - 1) (number w b at) (stalls w b at) top i j high c s n
       (λ h. stalls-by-sign (2 ^ (8 * w - 1)) m low high d half (rw el h) hd e c hc f ∙ rw (el, eh, n′))
+      (not-negative i j _ n)
 
 pub number-first : (w : ℕ) (b : List ℕ) (at top : ℕ) → top ≡ le w b at → top ≡ number w b at 0
 unfolding number

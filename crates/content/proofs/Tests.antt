@@ -12,7 +12,7 @@ use lib.Dec.{eqb, leb, ltb}
 use lib.ListN.{getD}
 use Rattle.format.specs.Bytes.{le, anyBelow, bitIn, bitAt, negative, sumBelow}
 use Rattle.format.specs.Verdict.{oneOf}
-use Rattle.content.specs.Numbers.{number, falls, badOffsetsAt, badRangeAt, badKey, badValidKey, stalls, startAt, badRunsAt, viewAt, badViewAt}
+use Rattle.content.specs.Numbers.{number, badRangeAt, badKey, badValidKey, stalls, startAt, badRunsAt, viewAt, badViewAt}
 use Rattle.content.proofs.Fold.{any-never, any-front, any-and}
 
 -- two tests that say the same come out the same
@@ -24,21 +24,6 @@ ltb-same a b c d to back = go (ltb a b) (ltb c d) refl refl
     go false false p q = p ∙ sym q
     go true false p q = absurd (not-le-of-lt (to (ltb-true a b p)) (ltb-false c d q))
     go false true p q = absurd (not-le-of-lt (back (ltb-true c d q)) (ltb-false a b p))
-
--- offsets
-pub falls-is : (w : ℕ) (b : List ℕ) (at i j low high : ℕ) → j ≡ i + 1 → low ≡ le w b (at + w * i) → high ≡ le w b (at + w * j)
-    → (leb (2 ^ (8 * w - 1)) high || ltb high low) ≡ falls w b at i
-unfolding falls number negative
-falls-is w b at i j low high n el eh =
-    let n′ : j ≡ suc i = omega arith in
-    rw (el, eh, n′)
-
-pub offsets-are : (w : ℕ) (b : List ℕ) (at n limit first last : ℕ) {fall : Bool} → first ≡ le w b at → fall ≡ anyBelow (falls w b at) n → last ≡ le w b (at + w * n)
-    → ((leb (2 ^ (8 * w - 1)) first || fall) || ltb limit last) ≡ badOffsetsAt w b at n limit
-unfolding badOffsetsAt number negative
-offsets-are w b at n limit first last e f l =
-    let here : at + w * 0 ≡ at = omega arith in
-    rw (e, f, l, here)
 
 -- a difference that may wrap
 pub wrapped : (m d y x : ℕ) → d < m → y < m → (d + y) % m ≡ x → (d + y ≡ x) ⊎ (d + y ≡ x + m)

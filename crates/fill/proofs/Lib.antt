@@ -1,8 +1,5 @@
 -- Laws of bitmaps in scratch.
-pub mod Packing
 pub mod Stored
-pub mod Filling
-pub mod RunBits
-pub mod Taking
 pub mod Reading
-mod Stretching
+pub mod Filling
+pub mod Taking

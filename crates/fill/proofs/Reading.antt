@@ -1,6 +1,6 @@
 -- A bitmap in scratch as a bit source, and the node whose bitmap tells the rows of another. Assumes nothing.
 use Prim.Native.Nat.{ℕ, suc, _+_, _*_, _/_, _^_, _≤_, _<_}
-use mathlib.Core.Bool.{Bool, true, _||_, false≢true}
+use mathlib.Core.Bool.{Bool, true, false, _||_, false≢true}
 use mathlib.Core.List.{List}
 use mathlib.Core.Path.{_≡_, refl, sym, ap, _∙_}
 use native.Mathlib.Nat.{zero-add}
@@ -13,16 +13,18 @@ use Rattle.format.specs.Node.{nodeCount, kindNumber, ofKind, rows, parent}
 use Rattle.format.specs.Answer.{takesScratch}
 use Rattle.format.specs.Slots.{picksFrom}
 use Rattle.format.specs.Kept.{keptRows}
+use Rattle.format.proofs.Accepted.{and-first}
 use Rattle.format.proofs.Laws.{kept-root}
 use Rattle.format.proofs.SlotLaws.{chosen-picks, picks-ext}
 use Rattle.slots.specs.Source.{slotOf, Lies}
 use Rattle.slots.proofs.Reading.{slot-is, set-plain}
-use Rattle.nesting.specs.Rows.{keeps, picksOf, Sifted, Ready, Nodes, Top}
+use Rattle.nesting.specs.Rows.{keeps, byOffsets, picksOf, Sifted, Ready, Nodes, Top}
 use Rattle.nesting.proofs.ByKind.{kind-at, rows-at, rows-small}
+use Rattle.nesting.proofs.Direct.{level-not}
 use Rattle.nesting.proofs.Levels.{up, parent-few}
 use Rattle.nesting.proofs.Scratch.{takes-one}
 use Rattle.nesting.proofs.Tree.{kept-sifted, kept-all}
-use Rattle.fill.specs.Scratch.{Bitmap, plainBits, Earlier}
+use Rattle.fill.specs.Scratch.{Bitmap, plainBits, takesBitmap, Earlier}
 
 -- a bitmap's bits pick the rows that it tells
 module _ {t : ℕ → Bool} {n : ℕ} {s : List ℕ} {at : ℕ} (map : Bitmap t n s at (length s)) where
@@ -48,6 +50,10 @@ front-map {at = at} s end fit map =
     }
 
 -- ---- node t keeps node i's rows, and no struct or union is above it
+
+pub bitmap-takes : (b : List ℕ) (p : ℕ) → takesBitmap b p ≡ true → takesScratch b p ≡ true
+unfolding takesBitmap
+bitmap-takes b p k = and-first _ _ k
 
 pub nodes-of : {b root table parents counts : List ℕ} {n : ℕ} → Ready b root table parents counts n → Nodes b table parents
 nodes-of r = record { sound = r .sound; tabled = r .tabled; above = r .above }
@@ -78,11 +84,18 @@ module _ {b table parents : List ℕ} (n : Nodes b table parents) {i t : ℕ} (t
     unfolding takesScratch ofKind
     takes-above e = e ∙ rw number-above
 
-    -- it is the child of a runs node or list: its bitmap, which stands before byte `at`
-    module _ (takes : takesScratch b (parent b t) ≡ true) {root s places : List ℕ} {at : ℕ} (e : Earlier b root i s places at) (fit : at ≤ length s) where
+    -- it is the child of a runs node or list, and node i is not copied by offsets: it has a bitmap
+    pub bitmap-above : takesScratch b (parent b t) ≡ true → byOffsets b i ≡ false → takesBitmap b (parent b t) ≡ true
+    unfolding takesBitmap
+    bitmap-above takes plain =
+        let only : t ≡ suc (parent b t) = n .sound .shape .only t some (top .level .inside) (takes-one b (parent b t) takes) in
+        rw (takes, ← only, level-not (top .level) plain)
+
+    -- which stands before byte `at`
+    module _ (takes : takesBitmap b (parent b t) ≡ true) {root s places : List ℕ} {at : ℕ} (e : Earlier b root i s places at) (fit : at ≤ length s) where
       map-above : Bitmap (keeps b root t) (rows b t) s (getD places t 0) at
       map-above =
-          let only : t ≡ suc (parent b t) = n .sound .shape .only t some (top .level .inside) (takes-one b (parent b t) takes) in
+          let only : t ≡ suc (parent b t) = n .sound .shape .only t some (top .level .inside) (takes-one b (parent b t) (bitmap-takes b (parent b t) takes)) in
           rw only (e .bitmaps (parent b t) (omega (arith, n .sound .shape .above t some, top .level .low)) takes)
 
       map-front : Bitmap (keeps b root t) (rows b t) (take at s) (getD places t 0) (length (take at s))

@@ -1,24 +1,17 @@
 -- A runs node or list, by its kind as the array has it. Assumes nothing.
 use Prim.Native.Nat.{ℕ, _+_, _*_, _<_}
-use mathlib.Core.Bool.{Bool, true, _||_}
 use mathlib.Core.List.{List}
 use mathlib.Core.Path.{_≡_, sym, _∙_}
 use native.Mathlib.Numerals.{add-one}
 use borrow.Author.Tests.{eqb-true, ne-eqb}
-use lib.Dec.{eqb}
 use lib.ListN.{getD}
 use Rattle.format.specs.Node.{nodeCount, kind, kindNumber, ofKind}
 use Rattle.format.specs.Answer.{takesScratch}
-use Rattle.format.specs.Accepted.{Sound, OneChild}
-use Rattle.nesting.specs.Rows.{Table, AtRuns, AtList}
+use Rattle.format.specs.Accepted.{OneChild}
+use Rattle.nesting.specs.Rows.{AtRuns, AtList}
 use Rattle.nesting.proofs.ByKind.{of-runs, of-nested32, of-nested64, kind-at}
-use Rattle.nesting.proofs.Scratch.{takes-one, takes-is}
+use Rattle.nesting.proofs.Scratch.{takes-one}
 use Rattle.fill.specs.Scratch.{Taking}
-
--- as the array tells it
-pub taking : {b table : List ℕ} {i : ℕ} → Sound b → Table b table → i < nodeCount b → {u : Bool}
-    → u ≡ (eqb (getD table (10 * i) 0) 9 || eqb (getD table (10 * i) 0) 13 || eqb (getD table (10 * i) 0) 14) → u ≡ true → Taking b table i
-taking s t h asked e = record { sound = s; tabled = t; inside = h; takes = sym (takes-is s t h asked) ∙ e }
 
 module _ {b table : List ℕ} {i : ℕ} (t : Taking b table i) where
   pub taking-one : OneChild (kind b i)

@@ -45,8 +45,11 @@ module _ {b root table parents counts : List ℕ} {node : ℕ} (ready : Ready b 
       record {
         small = omega (arith, len-few ready h);
         inside = omega (arith, offset-lies ready h o len long, mul-suc w len);
-        next = λ r l. rw (same r, same (suc r)) (o .rise r (omega arith));
-        fits = omega (arith, same len, offset-small ready h o len long);
+        mounts =
+            record {
+              up = record { next = λ r l. rw (same r, same (suc r)) (o .rise r (omega arith)) };
+              fits = omega (arith, same len, offset-small ready h o len long);
+            };
       }
 
   -- and rows picked by p, none from len on: all words passed
@@ -55,5 +58,5 @@ module _ {b root table parents counts : List ℕ} {node : ℕ} (ready : Ready b 
   all-words {p} past k l e =
       let below : Below (rows b node) (chosen p len) = rw (chosen-picks p len) (below-picks p (rows b node) len 0 (omega arith)) in (
         e ∙ ap (spans (offsetFrom w b first)) (chosen-more p len k l past) ∙ spans-own (ready .sound) o (offsetFrom w b first) same (chosen p len) below,
-        omega (arith, e, chosen-le text-laid past k, same len, o .inside len long),
+        omega (arith, e, chosen-le (text-laid .mounts) past k, same len, o .inside len long),
       )

@@ -1,4 +1,5 @@
-// How many child rows a list hands on where it keeps the mask's own rows: by the words of the mask and of its validity, and by the runs within a word.
+// How many child rows a list hands on where it keeps the mask's own rows: by the words of the mask and of its validity, and by the runs within a word; and below
+// lists without a bitmap, by the mask's words too.
 ghost use mathlib.Core.Path.{_≡_};
 ghost use lib.ListN.{length};
 ghost use Rattle.format.specs.Node.{rows};
@@ -7,7 +8,16 @@ ghost use Rattle.slots.specs.Source.{Lies};
 ghost use Rattle.nesting.specs.Rows.{picksOf, Sifted, AtList};
 use nesting::table::valid_rows;
 use slots::Bits;
+use spans::first_offset;
 use spans::word_spans;
+
+pub mod chain;
+
+// Lists one below another, innermost first: of list k at 2 k the place of its first offset, and behind that an offset's bytes. Room for 8, as deep as a pack may be.
+pub struct Levels {
+    pub at: [usize; 16],
+    pub count: usize,
+}
 
 // How many child rows the picked valid rows of list node i have, by offsets of w bytes.
 pub fn count_spans(
@@ -23,7 +33,7 @@ pub fn count_spans(
     requires { ⌜ Sifted (picksOf (now mask) bits) (rows (now journal) i) ⌝ }
     ensures { λ n. ⌜ n ≡ length (keptSpans w (now (journal .entry)) i (picksOf (now (mask .entry)) bits)) ⌝ }
 {
-    let first = table[10 * i + 6] as usize + w * (table[10 * i + 3] as usize);
+    let first = first_offset(journal, table, w, i);
     let len = bits.len;
     let mut n: usize = 0;
     let mut k: usize = 0;
@@ -35,10 +45,11 @@ pub fn count_spans(
         };
         let base = 64 * k;
         k += 1;
-        // An empty word costs this test alone.
         if x != 0 {
             let kept = valid_rows(journal, table, w, i, base, x);
             n += word_spans(journal, first, w, base, kept);
+        } else if k % scan::SPACING == 0 {
+            k = scan::blank_end(mask, bits, k);
         }
     }
     n

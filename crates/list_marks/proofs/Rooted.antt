@@ -1,41 +1,31 @@
 -- A list whose kept rows a bit source picks: its validity and the source by words, and which child rows it hands on. Assumes nothing.
-use Prim.Native.Nat.{ℕ, zero, suc, _+_, _-_, _*_, _≤_, _<_}
-use mathlib.Core.Bool.{Bool, true, false, _&&_, _||_}
-use mathlib.Core.List.{List, [], _++_, append-nil, append-assoc}
-use mathlib.Core.Logic.{dite}
+use Prim.Native.Nat.{ℕ, suc, _+_, _-_, _*_, _≤_}
+use mathlib.Core.Bool.{Bool, false, _&&_, _||_}
+use mathlib.Core.List.{List, [], _++_, append-nil}
 use mathlib.Core.Path.{_≡_, refl, sym, ap, _∙_}
-use native.Mathlib.Decide.{decLe}
-use native.Mathlib.Nat.{add-zero, zero-add, mul-add, mul-suc}
+use native.Mathlib.Nat.{zero-add, mul-suc}
 use native.Mathlib.Omega.{arith}
 use lib.Bits.{bitAnd}
-use lib.ListN.{length, getD, replicate, take, drop}
-use lib.Seq.{drop-length, drop-drop}
-use Rattle.format.specs.Bytes.{le, bitIn, one, bytesFor, packed, over}
-use Rattle.format.specs.Rows.{setRows, Below, none, more}
-use Rattle.format.specs.Slots.{slotsFrom, wordFrom, pick, picksFrom}
+use lib.ListN.{length, getD, replicate}
+use lib.Seq.{drop-length}
+use Rattle.format.specs.Bytes.{bytesFor, packed, over}
+use Rattle.format.specs.Rows.{setRows, Below}
+use Rattle.format.specs.Slots.{slotsFrom, wordFrom, picksFrom}
 use Rattle.format.specs.Put.{Wrote}
-use Rattle.format.specs.Node.{nodeCount, rows, valid, firstNumber, noBitmap}
+use Rattle.format.specs.Node.{rows, valid, firstNumber}
 use Rattle.format.specs.Kept.{keptSpans}
-use Rattle.format.specs.Accepted.{Nests, OneChild}
-use Rattle.format.specs.Accepted as is
-use Rattle.format.specs.declared.Kind.{Kind}
-use Rattle.format.proofs.Measure.{length-packed}
-use Rattle.format.proofs.Put.{wrote-front, put-parts}
+use Rattle.format.proofs.Put.{wrote-front}
 use Rattle.format.proofs.RowLaws.{set-none, set-from}
-use Rattle.format.proofs.SlotLaws.{length-slots, picks-cat, picks-none, chosen-picks}
-use Rattle.format.proofs.WordLaws.{from-and, from-ext, from-shift}
+use Rattle.format.proofs.SlotLaws.{picks-cat, picks-none, chosen-picks}
+use Rattle.format.proofs.WordLaws.{from-and}
 use Rattle.slots.specs.declared.Bits.{Bits}
 use Rattle.slots.specs.Source.{slotOf}
-use Rattle.slots.proofs.Reading.{slot-past}
 use Rattle.nesting.specs.Rows.{between, handsOn, picksOf, Sifted, AtList}
-use Rattle.nesting.proofs.Between.{told, above}
-use Rattle.nesting.proofs.ListAt.{list-spans, rows-few, start-lies, start-read, valid-none, valid-read}
-use Rattle.nesting.proofs.ByKind.{rows-at}
+use Rattle.nesting.proofs.ListAt.{list-spans, rows-few, start-lies}
 use Rattle.nesting.proofs.Tree.{handed-spans}
 use Rattle.marks.specs.Marks.{Marked}
-use Rattle.marks.proofs.Tests.{from-full-ones}
+use Rattle.marks.proofs.Stored.{length-rows}
 use Rattle.marks.proofs.Marking.{marked-none, marked-as, marked-then, marked-packed}
-use Rattle.spans.specs.Spans.{offsetFrom}
 use Rattle.spans.proofs.ByWords.{below-picked}
 use Rattle.spans.proofs.Listed.{offset-place, offset-is}
 use Rattle.nesting.proofs.Picks.{none-past}
@@ -104,9 +94,6 @@ module _ (p v : ℕ → Bool) where
 
 -- ---- the child rows that the list hands on
 
-pub length-kept : (p : ℕ → Bool) (n : ℕ) → length (packed (slotsFrom p n 0)) ≡ bytesFor n
-length-kept p n = length-packed _ ∙ ap bytesFor (length-slots p n 0)
-
 module _ {b table : List ℕ} {w i : ℕ} (a : AtList b table w i) (s : List ℕ) (bits : Bits) where
   pub spans-handed : (x : ℕ) → inSpans (firstNumber w b i) (picksFrom (λ q. slotOf s bits q && valid b i q) (bits .len) 0) x ≡ handsOn b i (picksOf s bits) x
   unfolding keptSpans
@@ -132,13 +119,5 @@ module _ {b table : List ℕ} {w i : ℕ} (a : AtList b table w i) (s : List ℕ
         let p : ℕ → Bool = handsOn b i (picksOf s bits) in
         let n : ℕ = rows b (suc i) in
         let wrote = marked-packed {at = 0} p n size (e ∙ long) (omega arith) z m (λ k h. absurd (omega arith)) (λ k h. rest k (omega arith)) (λ x h. ap (inSpans (firstNumber w b i) kept) (omega arith) ∙ spans-handed x) in
-        let all : length (packed (slotsFrom p n 0)) ≡ length old = length-kept p n ∙ sym long in
+        let all : length (packed (slotsFrom p n 0)) ≡ length old = length-rows p n ∙ sym long in
         wrote-front wrote (omega arith) ∙ rw (all, drop-length old) (append-nil _)
-
--- a part of a buffer written whole
-pub part-wrote : {old ys bs : List ℕ} (at size : ℕ) {next : ℕ} → ys ≡ bs → length bs ≡ size → at + size ≤ length old → next ≡ at + size → Wrote old at bs (take at old ++ (ys ++ drop size (drop at old))) next
-part-wrote {old} {ys} {bs} at size same e fit n =
-    record {
-      bytes = rw (same, drop-drop size at old, ← e) (sym (append-assoc (take at old) bs _) ∙ sym (put-parts old at bs (omega arith)));
-      place = omega arith;
-    }

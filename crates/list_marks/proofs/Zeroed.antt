@@ -15,9 +15,10 @@ use Rattle.slots.specs.declared.Bits.{Bits}
 use Rattle.slots.specs.Source.{slotOf}
 use Rattle.nesting.specs.Rows.{handsOn, picksOf, Sifted, AtList}
 use Rattle.marks.specs.Marks.{Marked, MarkedPart}
+use Rattle.marks.proofs.Stored.{length-rows, part-wrote}
 use Rattle.list_marks.specs.Spans.{inSpans}
 use Rattle.list_marks.proofs.Parts.{part-put, part-again, part-long}
-use Rattle.list_marks.proofs.Rooted.{length-kept, region-packed, part-wrote}
+use Rattle.list_marks.proofs.Rooted.{region-packed}
 
 -- the part zeroed: `zs` stands there
 module _ (at size n : ℕ) (old : List ℕ) {zs : List ℕ} {end : ℕ} (fit : at + size ≤ length old) (z : Wrote (take size (drop at old)) 0 (replicate n 0) zs end) where
@@ -44,4 +45,4 @@ module _ (at size n : ℕ) (old : List ℕ) {zs : List ℕ} {end : ℕ} (fit : a
         let long = part-long at size old fit in
         let same = region-packed a (cond u mask (take at old)) bits sifted n (full ∙ sym long) (long ∙ size-is) z marked in
         let whole : new ≡ take at old ++ (m .part ++ drop size (drop at old)) = m .whole ∙ part-again at size old zs fit zeros-long (m .part) in
-        rw whole (part-wrote at size same (length-kept (handsOn b i (picksOf (cond u mask (take at old)) bits)) (rows b (suc i)) ∙ sym size-is) fit e)
+        rw whole (part-wrote at size same (length-rows (handsOn b i (picksOf (cond u mask (take at old)) bits)) (rows b (suc i)) ∙ sym size-is) fit e)

@@ -4,7 +4,7 @@ ghost use mathlib.Core.Path.{_≡_};
 ghost use mathlib.Core.Bool.{true, cond, _&&_};
 ghost use mathlib.Core.List.{_∷_, []};
 ghost use Prim.Native.Nat.{_+_, _-_, _*_, _^_, _≤_, suc};
-ghost use lib.ListN.{length, getD, take};
+ghost use lib.ListN.{length, take};
 ghost use Rattle.format.specs.Bytes.{bytesFor, packed};
 ghost use Rattle.format.specs.Node.{rows, valid, firstNumber};
 ghost use Rattle.format.specs.Rows.{setRows};
@@ -19,6 +19,7 @@ ghost use Rattle.list_marks.specs.Spans.{inSpans, Spanning};
 use nesting::table::number;
 use nesting::table::valid_rows;
 use slots::Bits;
+use spans::first_offset;
 
 // The child rows of the rows base + k for the set bits k of a word, set in their bitmap: run by run, by offsets of w bytes from `first` on.
 fn mark_rows(journal: &[u8], first: usize, w: usize, base: usize, word: u64, region: &mut [u8])
@@ -34,14 +35,6 @@ fn mark_rows(journal: &[u8], first: usize, w: usize, base: usize, word: u64, reg
         marks::set_ones(region, lo, hi);
         rest = run.rest;
     }
-}
-
-// Where the offset of row 0 of list node i stands.
-fn first_offset(journal: &[u8], table: &[u32; 640], w: usize, i: usize) -> usize
-    requires { ⌜ AtList (now journal) (now table) w i ⌝ }
-    ensures { λ r. ⌜ r ≡ getD (now (table .entry)) (10 * i + 6) 0 + w * getD (now (table .entry)) (10 * i + 3) 0 ⌝ }
-{
-    table[10 * i + 6] as usize + w * (table[10 * i + 3] as usize)
 }
 
 // The slice in which a source's bits stand: the mask, or the front of scratch.

@@ -16,14 +16,14 @@ use Rattle.format.specs.Words.{wordOf}
 use Rattle.format.specs.Slots.{slotsFrom, wordFrom, All}
 use Rattle.format.specs.Put.{put, Wrote}
 use Rattle.format.proofs.Laws.{getD-table}
-use Rattle.format.proofs.Measure.{length-toLe, length-packed}
+use Rattle.format.proofs.Measure.{length-toLe}
 use Rattle.format.proofs.PackedLaws.{packed-word, bit-packed}
 use Rattle.format.proofs.SlotLaws.{length-slots}
 use Rattle.format.proofs.Put.{length-put, same-size}
 use Rattle.format.proofs.WordLaws.{from-ext, from-shift, from-none, from-high, from-low, from-byte, bytes-bits}
 use Rattle.marks.specs.Marks.{Marked}
 use Rattle.marks.proofs.Tests.{within-join, within-in, within-before, within-past, or-join, or-ones, from-or, from-full-ones, from-within}
-use Rattle.marks.proofs.Stored.{put-before, put-at, put-past, getD-slots}
+use Rattle.marks.proofs.Stored.{put-before, put-at, put-past, getD-slots, length-rows}
 
 pub marked-none : {t : ℕ → Bool} {s : List ℕ} → ((k : ℕ) → t k ≡ false) → Marked t s s
 marked-none {t} {s} h =
@@ -162,7 +162,7 @@ module _ {t : ℕ → Bool} {old mid new : List ℕ} {at next : ℕ} (p : ℕ �
   long = length-slots p n 0
 
   wide : length (packed ts) ≡ size
-  wide = length-packed ts ∙ ap bytesFor long ∙ sym e
+  wide = length-rows p n ∙ sym e
 
   bit : (x : ℕ) → t (8 * at + x) ≡ bitIn (packed ts) x
   bit x =

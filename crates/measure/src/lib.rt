@@ -14,6 +14,7 @@ ghost use Rattle.format.specs.Accepted.{Sound};
 ghost use Rattle.slots.specs.Source.{Lies};
 ghost use Rattle.nesting.specs.Rows.{picksOf, Ready, Counts, Table};
 ghost use Rattle.measure.specs.Size.{bodyEnd};
+use kept_counts::count_kept;
 use kept_data::data::any_null;
 use kept_data::data::data_length;
 use nesting::table::RUNS;
@@ -28,7 +29,6 @@ use size::has_second;
 use size::raise;
 use size::second_size;
 use slots::Bits;
-use stretches::count::count_kept;
 
 // How many rows each node keeps. The root keeps the picked slots, which are counted before: `kept`.
 pub fn count_all(

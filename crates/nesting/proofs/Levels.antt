@@ -15,7 +15,7 @@ use Rattle.nesting.proofs.ByKind.{of-struct, of-union, not-shared, kind
 use Rattle.nesting.proofs.Tree.{kept-shared}
 
 pub level-all : (b : List ℕ) (node : ℕ) → node < nodeCount b → Level b node node
-level-all b node h = record { inside = h; low = omega arith; same = λ root. refl; long = refl }
+level-all b node h = record { inside = h; low = omega arith; over = λ f. absurd (f refl); same = λ root. refl; long = refl }
 
 -- the root is the last
 pub top-root : {b : List ℕ} {node i : ℕ} → Level b node i → i ≡ 0 → Top b node i
@@ -47,6 +47,7 @@ module _ {b table parents : List ℕ} (n : Nodes b table parents) {node i : ℕ}
       record {
         inside = omega (arith, up, l .inside);
         low = omega (arith, up, l .low);
+        over = λ _. s;
         same = λ root. ap (keptRows b root) is-parent ∙ sym (kept-shared b root i some t) ∙ l .same root;
         long = ap (rows b) is-parent ∙ sym (n .sound .agree .same i some (l .inside) t) ∙ l .long;
       }

@@ -13,3 +13,4 @@ pub mod Picks
 pub mod Levels
 pub mod RunEdges
 pub mod Scratch
+pub mod Direct

@@ -11,11 +11,13 @@ use lib.ListN.{length, getD}
 use Rattle.format.specs.declared.Kind.{Kind}
 use Rattle.format.specs.Bytes.{le, bitIn, bitAt, bytesFor}
 use Rattle.format.specs.Node.{tableStart, nodeCount, kind, rows, skip, places, firstAt, validityAt, noBitmap, hasNoBitmap, valid, firstNumber}
+use Rattle.format.specs.Node.{parent}
+use Rattle.format.specs.Kept.{keptRows, keptSpans}
 use Rattle.format.specs.Verdict.{packLimit, oneOf}
 use Rattle.format.specs.Accepted.{Nests, Spans}
 use Rattle.format.specs.Accepted as is
 use Rattle.nesting.specs.Rows.{AtList}
-use Rattle.nesting.proofs.Tree.{one-of}
+use Rattle.nesting.proofs.Tree.{one-of, kept-spans-of}
 use Rattle.nesting.proofs.ByKind.{first-at, skip-at, rows-at, validity-at, rows-small, skip-small}
 
 wide : {w : ℕ} {k : Kind} → Nests w k → oneOf (2 ∷ 4 ∷ 8 ∷ []) w ≡ true
@@ -51,6 +53,12 @@ module _ {b table : List ℕ} {w i : ℕ} (a : AtList b table w i) where
   -- its child
   pub child-in : suc i < nodeCount b
   child-in = a .sound .shape .next i (a .inside) (one-of (a .isList))
+
+  -- it keeps the child rows of the list's kept rows
+  pub child-kept : (root : List ℕ) → keptRows b root (suc i) ≡ keptSpans w b i (keptRows b root i)
+  child-kept root =
+      let up : parent b (suc i) ≡ i = a .sound .shape .under i (a .inside) (one-of (a .isList)) in
+      rw up at (kept-spans-of b root (suc i) (omega arith) w (rw up (a .isList)))
 
   pub child-low : suc i < 64
   child-low = omega (arith, child-in, a .sound .shape .few)

@@ -16,7 +16,7 @@ map-both f (x ∷ xs) ys = ap (f x ∷_) (map-both f xs ys)
 
 module _ (w : ℕ) (b : List ℕ) (p : ℕ) where
   -- how many child rows chosen rows have: one row more
-  keptSpans-append : (xs ys : List ℕ) → keptSpans w b p (xs ++ ys) ≡ keptSpans w b p xs ++ keptSpans w b p ys
+  pub keptSpans-append : (xs ys : List ℕ) → keptSpans w b p (xs ++ ys) ≡ keptSpans w b p xs ++ keptSpans w b p ys
   unfolding keptSpans
   keptSpans-append xs ys = rw (map-both (span w b p) xs ys) (join-append (map (span w b p) xs) (map (span w b p) ys))
 

@@ -1,12 +1,12 @@
 -- The kept rows of a node as a test, the question whether some of them lie in a range, and arrays filled node by node. Assumes nothing.
-use Prim.Native.Nat.{ℕ, suc, _+_, _-_, _*_, _≤_, _<_, min}
-use mathlib.Core.Bool.{Bool, true, false, _||_}
+use Prim.Native.Nat.{ℕ, zero, suc, _+_, _-_, _*_, _≤_, _<_, min}
+use mathlib.Core.Bool.{Bool, true, false, _&&_, _||_}
 use mathlib.Core.List.{List, [], _∷_}
 use mathlib.Core.Path.{_≡_}
 use lib.ListN.{length}
 use Rattle.format.specs.Bytes.{le, chosen, within}
 use Rattle.format.specs.declared.Kind.the-variants.{Runs}
-use Rattle.format.specs.Node.{tableStart, nodeCount, kind, rows, skip, runStart, parent}
+use Rattle.format.specs.Node.{tableStart, nodeCount, kind, ofKind, hasNoBitmap, rows, skip, runStart, parent}
 use Rattle.format.specs.Accepted.{Sound, Shares, Nests}
 use Rattle.slots.specs.declared.Bits.{Bits}
 use Rattle.slots.specs.Source.{slotOf}
@@ -76,10 +76,23 @@ pub record AtRoot (b : List ℕ) (node : ℕ) (t : Bool) : Type 0 where
   pub same : t ≡ true → (root : List ℕ) → keptRows b root node ≡ root
   pub long : t ≡ true → rows b node ≡ rows b 0
 
--- node t, the node itself or one before it, keeps the node's rows, and has as many
+-- a list with no bitmap; entries of a width, with no bitmap
+unfoldable pub plainList : List ℕ → ℕ → Bool
+plainList b i = (ofKind 13 b i || ofKind 14 b i) && hasNoBitmap b i
+
+unfoldable pub plainEntries : List ℕ → ℕ → Bool
+plainEntries b i = (ofKind 2 b i || ofKind 3 b i) && hasNoBitmap b i
+
+-- node i is such entries under such a list, the node before it: they are copied by the list's own offsets, so no bitmap in scratch is made for them
+unfoldable pub byOffsets : List ℕ → ℕ → Bool
+byOffsets b zero = false
+byOffsets b (suc p) = plainList b p && plainEntries b (suc p)
+
+-- node t, the node itself or a struct or union before it, keeps the node's rows, and has as many
 pub record Level (b : List ℕ) (node t : ℕ) : Type 0 where
   pub inside : t < nodeCount b
   pub low : t ≤ node
+  pub over : (t ≡ node → ⊥) → Shares (kind b t)
   pub same : (root : List ℕ) → keptRows b root t ≡ keptRows b root node
   pub long : rows b t ≡ rows b node
 

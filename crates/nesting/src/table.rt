@@ -1,20 +1,24 @@
 // An accepted journal's node table as numbers, each field read once; and the run ends of a runs node.
 ghost use mathlib.Core.Path.{_≡_};
-ghost use mathlib.Core.Bool.{true, _||_};
+ghost use mathlib.Core.Bool.{true, _&&_, _||_};
 ghost use lib.Dec.{eqb};
 ghost use mathlib.Core.List.{_∷_, []};
 ghost use Prim.Native.Nat.{_+_, _*_, _^_, _≤_, _<_, min, suc};
 ghost use lib.Bits.{bitAnd};
 ghost use lib.ListN.{length};
 ghost use Rattle.format.specs.Bytes.{le};
-ghost use Rattle.format.specs.Node.{tableStart, nodeCount, rows, valid, firstNumber, runEnd, runStart};
+ghost use Rattle.format.specs.Node.{tableStart, nodeCount, noBitmap, rows, valid, firstNumber, runEnd, runStart};
 ghost use Rattle.format.specs.Slots.{wordFrom};
 ghost use Rattle.format.specs.Verdict.{oneOf};
 ghost use Rattle.format.specs.Accepted.{Shape};
-ghost use Rattle.nesting.specs.Rows.{Table, AtRuns, AtList};
+ghost use Rattle.nesting.specs.Rows.{byOffsets, Table, AtRuns, AtList};
 
 // Kinds by number: the children of runs keep its runs, those of struct and union its rows, those of lists the rows of kept valid lists; all others are
 // carried with all rows.
+const NATIVE: u32 = 2;
+
+const FIXED: u32 = 3;
+
 pub const RUNS: u32 = 9;
 
 pub const STRUCT: u32 = 10;
@@ -33,6 +37,32 @@ pub fn takes_scratch(kind: u32) -> bool
     ensures { λ t. ⌜ t ≡ (eqb kind 9 || eqb kind 13 || eqb kind 14) ⌝ }
 {
     (kind == RUNS) | (kind == LIST32) | (kind == LIST64)
+}
+
+// A list with no bitmap.
+fn plain_list(kind: u32, validity: u32) -> bool
+    ensures { λ t. ⌜ t ≡ ((eqb kind 13 || eqb kind 14) && eqb validity noBitmap) ⌝ }
+{
+    ((kind == LIST32) | (kind == LIST64)) & (validity == NO_BITMAP)
+}
+
+// Entries of a width, with no bitmap.
+fn plain_entries(kind: u32, validity: u32) -> bool
+    ensures { λ t. ⌜ t ≡ ((eqb kind 2 || eqb kind 3) && eqb validity noBitmap) ⌝ }
+{
+    ((kind == NATIVE) | (kind == FIXED)) & (validity == NO_BITMAP)
+}
+
+// Node i is such entries under such a list: its rows are copied by the list's own offsets, so it takes no bitmap in scratch (why, docs/DECISIONS.md, 71).
+pub fn by_offsets(journal: &[u8], table: &[u32; 640], i: usize) -> bool
+    requires { ⌜ Table (now journal) (now table) × (i < nodeCount (now journal)) × (nodeCount (now journal) ≤ 64) ⌝ }
+    ensures { λ t. ⌜ t ≡ byOffsets (now (journal .entry)) i ⌝ }
+{
+    if i == 0 {
+        return false;
+    }
+    let p = i - 1;
+    plain_list(table[10 * p], table[10 * p + 5]) & plain_entries(table[10 * i], table[10 * i + 5])
 }
 
 // The smaller of two numbers.

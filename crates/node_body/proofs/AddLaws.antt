@@ -1,6 +1,7 @@
 -- A node's three buffers one after the other are what it adds to the body; the size of its data. Assumes nothing.
 use Prim.Native.Nat.{ℕ, _+_, _-_, _≤_}
 use mathlib.Core.Path.{_≡_, refl, _∙_}
+use mathlib.Core.Bool.{true}
 use mathlib.Core.List.{List, map}
 use native.Mathlib.Omega.{arith}
 use lib.ListN.{length, length-append}
@@ -8,14 +9,17 @@ use Rattle.format.specs.declared.Kind.{Kind}
 use Rattle.format.specs.declared.Kind.the-variants.{Bits as BitsKind, Native, Fixed, Bytes32, Bytes64, Views, Lists32, Lists64, Runs, Struct, Union, Dictionary, Nested32, Nested64, Unknown}
 use Rattle.format.specs.Bytes.{join}
 use Rattle.format.specs.Kept.{KeptNode, cells, ownBytes, keptNode}
-use Rattle.format.specs.Node.{noBitmap, kind, valid}
+use Rattle.format.specs.Node.{noBitmap, hasNoBitmap, kind, valid}
 use Rattle.format.specs.Write.{Buffer, absent, holds, bitmap, first, second, dataLength}
 use Rattle.format.proofs.Put.{then, same-size}
 use Rattle.append.specs.Cells.{padding}
 use Rattle.buffers.specs.Place.{appended, ending, startOf, Puts}
 use Rattle.nodes.specs.Body.{nodeBody}
 use Rattle.buffers.specs.declared.Placed.{Placed}
-use Rattle.buffers.proofs.PutLaws.{pad-ends}
+use Rattle.buffers.proofs.PutLaws.{pad-ends, puts-none}
+use Rattle.nodes.specs.Place.{Copies, ofNative, ofFixed, Flat, flatNative, flatFixed}
+use Rattle.nodes.proofs.NullLaws.{all-valid, bitmap-none}
+use Rattle.nodes.proofs.BufferLaws.{Single, numeric, fixed, second-absent}
 use Rattle.node_body.specs.Added.{dataSize, Added}
 
 -- ---- one buffer
@@ -104,3 +108,33 @@ module _ (b : List ℕ) (i : ℕ) (rs : List ℕ) {old : List ℕ} {at : ℕ} {m
     secondStart = rw (← after-first) (r .starts);
     size = s ∙ rw (e, r .starts, puts-end r) (data-length b i rs (f .next) (kind b i));
   }
+
+-- ---- one buffer alone
+
+-- such entries copy their param bytes a row, and have no second buffer and no data
+pub flat-copies : {k : Kind} {p : ℕ} → Flat k → Copies k p p
+flat-copies flatNative = ofNative
+flat-copies flatFixed = ofFixed
+
+flat-single : {k : Kind} → Flat k → Single k
+flat-single flatNative = numeric
+flat-single flatFixed = fixed
+
+flat-size : {k : Kind} → Flat k → (start next : ℕ) → 0 ≡ dataSize k start next
+flat-size flatNative start next = refl
+flat-size flatFixed start next = refl
+
+module _ (b : List ℕ) (i : ℕ) (rs : List ℕ) (f : Flat (kind b i)) (plain : hasNoBitmap b i ≡ true) where
+  no-bitmap : bitmap (map (valid b i) rs) ≡ absent
+  no-bitmap = bitmap-none _ (all-valid b i rs plain)
+
+  no-second : second (cells (kind b i) b i rs) ≡ absent
+  no-second = second-absent b i rs refl (flat-single f)
+
+  -- there is room for it where there is for the node
+  pub alone-room : (at : ℕ) (old : List ℕ) → at + length (nodeBody at (keptNode b i rs)) ≤ length old → at + length (appended at (first (cells (kind b i) b i rs))) ≤ length old
+  alone-room at old fit = first-room b i rs at old fit (puts-none no-bitmap refl)
+
+  pub alone : {old : List ℕ} {at : ℕ} {new : List ℕ} {r : Placed} → Puts 0 (first (cells (kind b i) b i rs)) old at new r
+      → Added (keptNode b i rs) old at new (record { validity = noBitmap; first = r .start; second = 0; next = r .next; «data» = 0 })
+  alone {r = r} q = added b i rs (puts-none no-bitmap refl) q (puts-none no-second refl) (kind b i) 0 refl (flat-size f 0 (r .next))

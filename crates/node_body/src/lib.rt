@@ -1,14 +1,17 @@
 // The body of one node of an extract: its bitmap, first and second buffer behind the body so far.
 ghost use mathlib.Core.Path.{_≡_};
+ghost use mathlib.Core.Bool.{true};
 ghost use mathlib.Core.List.{map};
-ghost use Prim.Native.Nat.{_+_, _≤_};
+ghost use Prim.Native.Nat.{suc, _+_, _≤_};
 ghost use lib.ListN.{length};
-ghost use Rattle.format.specs.Kept.{keptNode};
-ghost use Rattle.format.specs.Node.{valid};
+ghost use Rattle.format.specs.Accepted.{Nests};
+ghost use Rattle.format.specs.Kept.{keptNode, keptSpans};
+ghost use Rattle.format.specs.Node.{valid, hasNoBitmap, kind};
 ghost use Rattle.format.specs.Write.{anyNull};
 ghost use Rattle.nodes.specs.Body.{nodeBody};
 ghost use Rattle.buffers.specs.Place.{rowsBy};
-ghost use Rattle.nodes.specs.Place.{Picked, Kinded};
+ghost use Rattle.nodes.specs.Place.{Picked, Kinded, Flat};
+ghost use Rattle.pack.specs.Read.{nodeOf};
 ghost use Rattle.node_body.specs.Added.{dataSize, Added};
 use format::Kind;
 use pack::Node;
@@ -92,5 +95,49 @@ pub fn put_buffers(
         second: d.start,
         next: d.next,
         data: data_size(k, d.start, d.next),
+    }
+}
+
+// The buffers of a node of entries, node i + 1, under a list with offsets of w bytes, node i, whose rows are selected. Neither has a bitmap, so the entries are copied by the
+// list's offsets, and the node has no other buffer.
+pub fn put_values(
+    out: &mut [u8],
+    at: usize,
+    journal: &[u8],
+    i: usize,
+    above: Node,
+    w: usize,
+    node: Node,
+    sel: Selection,
+    s: &[u8],
+    bits: Bits,
+    list: &[u32],
+) -> Buffers
+    requires { ⌜ Picked (now journal) i above sel (now s) bits (now list) ⌝ }
+    requires { ⌜ Nests w (kind (now journal) i) × (hasNoBitmap (now journal) i ≡ true) ⌝ }
+    requires { ⌜ (node ≡ nodeOf (now journal) (suc i)) × Flat (kind (now journal) (suc i)) × (hasNoBitmap (now journal) (suc i) ≡ true) ⌝ }
+    requires { ⌜ at + length (nodeBody at (keptNode (now journal) (suc i) (keptSpans w (now journal) i (rowsBy sel (now s) bits)))) ≤ length (now out) ⌝ }
+    ensures { λ r. ⌜ Added (keptNode (now (journal .entry)) (suc i) (keptSpans w (now (journal .entry)) i (rowsBy sel (now (s .entry)) bits))) (now (out .entry)) at (now (out .exit)) r ⌝ }
+{
+    let f = nodes::first_values(
+        out,
+        at,
+        journal,
+        i,
+        above,
+        w,
+        node,
+        node.param as usize,
+        sel,
+        s,
+        bits,
+        list,
+    );
+    Buffers {
+        validity: nodes::NO_BITMAP,
+        first: f.start,
+        second: 0,
+        next: f.next,
+        data: 0,
     }
 }

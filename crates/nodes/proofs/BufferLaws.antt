@@ -3,6 +3,7 @@ use Prim.Native.Nat.{ℕ, suc, _+_, _*_, _^_, _≤_, _<_}
 use mathlib.Core.Path.{_≡_, refl, sym, ap, _∙_}
 use mathlib.Core.Bool.{Bool}
 use mathlib.Core.List.{List, map}
+use mathlib.Core.Logic.{_⊎_}
 use native.Mathlib.Nat.{add-assoc, add-suc, mul-add, mul-le-mul-left, one-mul}
 use native.Mathlib.Omega.{arith}
 use lib.ListN.{length}
@@ -15,7 +16,7 @@ use Rattle.format.specs.Node.{kind, param, rows, skip, places, firstAt, secondA
 use Rattle.format.specs.Verdict.{firstSize, secondSize}
 use Rattle.format.specs.Write.{absent, holds, first, second, numbers, offsets}
 use Rattle.append.specs.Cells.{entriesOf, Entries}
-use Rattle.texts.specs.Texts.{offset, sizesOf, textsOf, Texts}
+use Rattle.texts.specs.Texts.{offset, startIn, sizesOf, textsOf, Texts}
 use Rattle.texts.proofs.NodeLaws.{first-offset}
 use Rattle.bitmaps.specs.Push.{bitFrom}
 use Rattle.columns.proofs.Buffers.{kept-among, first-of-entries, first-of-ranges, second-of-ranges}
@@ -115,10 +116,10 @@ module _ {b : List ℕ} {i : ℕ} {node : Node} {sel : Selection} {s : List ℕ}
 
 -- ---- byte columns
 
-module _ {b : List ℕ} {i : ℕ} {node : Node} {sel : Selection} {s : List ℕ} {mask : Bits} {list : List ℕ} (p : Picked b i node sel s mask list) (w : ℕ) (o : Accepted.Offsets w b i) where
+module _ {b : List ℕ} {i : ℕ} {node : Node} {sel : Selection} {s : List ℕ} {mask : Bits} {list : List ℕ} (p : Picked b i node sel s mask list) (w : ℕ) (width : (w ≡ 4) ⊎ (w ≡ 8)) (o : Accepted.Offsets w b i) where
   -- offsets and own bytes lie in the journal for the rows that the mask has
-  pub texts-lie : Texts w b (firstAt b i + w * skip b i) (secondAt b i) (mask .len)
-  unfolding places
+  pub texts-lie : Texts 1 w b (firstAt b i + w * skip b i) (secondAt b i) (mask .len)
+  unfolding places startIn
   texts-lie =
       let table = p .sound .shape .table in
       let lie = o .lie in
@@ -126,6 +127,7 @@ module _ {b : List ℕ} {i : ℕ} {node : Node} {sel : Selection} {s : List ℕ}
       let short = p .short in
       let last = o .inside (mask .len) short in
       record {
+        width = width;
         offsets = record {
           inside = entries-after w (length b) (firstAt b i) (skip b i) (suc (rows b i)) 0 (suc (mask .len)) (rw add-suc (omega arith)) (omega arith);
           rising = λ r l. rw (first-offset w b i r, first-offset w b i (suc r)) (o .rise r (omega arith));
@@ -142,12 +144,12 @@ pub cells-64 : (b : List ℕ) (i : ℕ) (rs : List ℕ) → kind b i ≡ Bytes64
 unfolding cells
 cells-64 b i rs k = rw k
 
-module _ {b : List ℕ} {i : ℕ} {node : Node} {sel : Selection} {s : List ℕ} {mask : Bits} {list : List ℕ} (p : Picked b i node sel s mask list) (w : ℕ) (o : Accepted.Offsets w b i)
+module _ {b : List ℕ} {i : ℕ} {node : Node} {sel : Selection} {s : List ℕ} {mask : Bits} {list : List ℕ} (p : Picked b i node sel s mask list) (w : ℕ) (width : (w ≡ 4) ⊎ (w ≡ 8)) (o : Accepted.Offsets w b i)
     (is : cells (kind b i) b i (rowsBy sel s mask) ≡ texts w (map (ownBytes w b i) (rowsBy sel s mask))) where
   pub first-texts-are : first (cells (kind b i) b i (rowsBy sel s mask)) ≡ holds (numbers w (offsets (sizesOf (offset w b (firstAt b i + w * skip b i)) (rowsBy sel s mask))))
-  first-texts-are = ap first is ∙ first-of-texts w b i (rowsBy sel s mask) (kept-among (keptBy sel s mask) (mask .len) (texts-lie p w o))
+  first-texts-are = ap first is ∙ first-of-texts w b i (rowsBy sel s mask) (kept-among (keptBy sel s mask) (mask .len) (texts-lie p w width o))
 
-  pub second-texts-are : second (cells (kind b i) b i (rowsBy sel s mask)) ≡ holds (textsOf (offset w b (firstAt b i + w * skip b i)) b (secondAt b i) (rowsBy sel s mask))
+  pub second-texts-are : second (cells (kind b i) b i (rowsBy sel s mask)) ≡ holds (textsOf (startIn 1 w b (firstAt b i + w * skip b i)) b (secondAt b i) (rowsBy sel s mask))
   second-texts-are = ap second is ∙ second-of-texts w b i (rowsBy sel s mask)
 
 -- ---- runs

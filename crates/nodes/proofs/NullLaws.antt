@@ -12,7 +12,7 @@ use Rattle.pack.specs.Read.{nodeOf}
 use Rattle.pack.specs.declared.Node.{Node}
 
 -- a null row shows that there is a bitmap
-all-valid : (b : List ℕ) (i : ℕ) (rs : List ℕ) → hasNoBitmap b i ≡ true → anyNull (map (valid b i) rs) ≡ false
+pub all-valid : (b : List ℕ) (i : ℕ) (rs : List ℕ) → hasNoBitmap b i ≡ true → anyNull (map (valid b i) rs) ≡ false
 unfolding anyNull valid
 all-valid b i [] h = refl
 all-valid b i (r ∷ rs) h = rw h (all-valid b i rs h)

@@ -31,6 +31,11 @@ pub data Copies : Kind → ℕ → ℕ → Type 0 where
   ofUnion : {p : ℕ} → Copies Union p 1
   ofDictionary : {p : ℕ} → Copies Dictionary p p
 
+-- the kinds that are nothing but entries of param bytes: no second buffer, no child
+pub data Flat : Kind → Type 0 where
+  flatNative : Flat Native
+  flatFixed : Flat Fixed
+
 -- the kinds whose second buffer has sizes, copied as they are: kind, and bytes to a size
 pub data Sizes : Kind → ℕ → Type 0 where
   sizes32 : Sizes Lists32 4

@@ -1,14 +1,16 @@
 // One node of an extract: its bitmap, first and second buffer, each behind the body so far, padded to a multiple of 8.
 ghost use mathlib.Core.Path.{_≡_};
 ghost use mathlib.Core.List.{map};
-ghost use Prim.Native.Nat.{_+_, _*_, _≤_};
+ghost use mathlib.Core.Bool.{true};
+ghost use Prim.Native.Nat.{suc, _+_, _*_, _≤_};
 ghost use lib.ListN.{length};
 ghost use Rattle.format.specs.Accepted.{Nests};
-ghost use Rattle.format.specs.Kept.{cells};
-ghost use Rattle.format.specs.Node.{valid, noBitmap, rows, kind, param, child};
+ghost use Rattle.format.specs.Kept.{cells, keptSpans};
+ghost use Rattle.format.specs.Node.{valid, hasNoBitmap, noBitmap, rows, kind, param, child};
 ghost use Rattle.format.specs.Write.{anyNull, bitmap, first, second};
 ghost use Rattle.buffers.specs.Place.{appended, rowsBy, Puts};
 ghost use Rattle.nodes.specs.Place.{Picked, Copies, Sizes, Kinded};
+ghost use Rattle.pack.specs.Read.{nodeOf};
 use buffers::Placed;
 use format::Kind;
 use pack::Node;
@@ -16,7 +18,7 @@ use predicate::Selection;
 use slots::Bits;
 
 // Validity at this place: no bitmap.
-const NO_BITMAP: usize = 0xFFFF_FFFF;
+pub const NO_BITMAP: usize = 0xFFFF_FFFF;
 
 // The bitmap of the kept rows, only if one of them is null.
 pub fn filter_nulls(
@@ -140,12 +142,14 @@ fn second_texts32(
     ensures { λ r. ⌜ Puts 0 (second (cells (kind (now (journal .entry)) i) (now (journal .entry)) i (rowsBy sel (now (s .entry)) mask))) (now (out .entry)) at (now (out .exit)) r ⌝ }
 {
     let place = row_zero(node.first_at, 4, node.skip);
-    buffers::put_texts32(
+    buffers::put_texts(
         out,
         at,
         journal,
         place,
+        4,
         node.second_at as usize,
+        1,
         sel,
         s,
         mask,
@@ -192,12 +196,14 @@ fn second_texts64(
     ensures { λ r. ⌜ Puts 0 (second (cells (kind (now (journal .entry)) i) (now (journal .entry)) i (rowsBy sel (now (s .entry)) mask))) (now (out .entry)) at (now (out .exit)) r ⌝ }
 {
     let place = row_zero(node.first_at, 8, node.skip);
-    buffers::put_texts64(
+    buffers::put_texts(
         out,
         at,
         journal,
         place,
+        8,
         node.second_at as usize,
+        1,
         sel,
         s,
         mask,
@@ -233,6 +239,32 @@ fn first_spans(
     }
     let from = 8 * validity + node.skip as usize;
     buffers::put_spans(out, at, journal, width, place, from, sel, s, mask, list)
+}
+
+// The first buffer of a node of entries of `width` bytes, node i + 1, under a list with no bitmap, node i, whose rows are selected: copied by the list's offsets, of w bytes.
+pub fn first_values(
+    out: &mut [u8],
+    at: usize,
+    journal: &[u8],
+    i: usize,
+    above: Node,
+    w: usize,
+    node: Node,
+    width: usize,
+    sel: Selection,
+    s: &[u8],
+    mask: Bits,
+    list: &[u32],
+) -> Placed
+    requires { ⌜ Picked (now journal) i above sel (now s) mask (now list) ⌝ }
+    requires { ⌜ Nests w (kind (now journal) i) × (hasNoBitmap (now journal) i ≡ true) ⌝ }
+    requires { ⌜ (node ≡ nodeOf (now journal) (suc i)) × Copies (kind (now journal) (suc i)) (param (now journal) (suc i)) width ⌝ }
+    requires { ⌜ at + length (appended at (first (cells (kind (now journal) (suc i)) (now journal) (suc i) (keptSpans w (now journal) i (rowsBy sel (now s) mask))))) ≤ length (now out) ⌝ }
+    ensures { λ r. ⌜ Puts 0 (first (cells (kind (now (journal .entry)) (suc i)) (now (journal .entry)) (suc i) (keptSpans w (now (journal .entry)) i (rowsBy sel (now (s .entry)) mask)))) (now (out .entry)) at (now (out .exit)) r ⌝ }
+{
+    let place = row_zero(above.first_at, w, above.skip);
+    let start = row_zero(node.first_at, width, node.skip);
+    buffers::put_texts(out, at, journal, place, w, start, width, sel, s, mask, list)
 }
 
 // The first buffer of a runs node, whose child has n rows.

@@ -180,7 +180,7 @@ pub fn run_from(s: &[u8], b: Bits, place: usize) -> Rows
     }
 }
 
-// The rows kept next, by the mask alone: from the word of `place` on, words of zeros are passed over.
+// The rows kept next, by the mask alone: from the word of `place` on, words of zeros are passed over, many of them in fours.
 fn next_word(s: &[u8], b: Bits, place: usize, index: usize) -> Block
     requires { ⌜ Lies (now s) b ⌝ }
     ensures { λ r. ⌜ Worded (slotOf (now (s .entry)) b) (b .len) place r ⌝ }
@@ -195,7 +195,11 @@ fn next_word(s: &[u8], b: Bits, place: usize, index: usize) -> Block
     }
     let mut x = slots::word_in(s, b, w) >> (place % 64) << (place % 64);
     while x == 0 {
-        w += 1;
+        w = if (w + 1) % scan::SPACING == 0 {
+            scan::blank_end(s, b, w + 1)
+        } else {
+            w + 1
+        };
         if len < 64 * w + 128 {
             return last_block(s, b, 64 * w, index);
         }

@@ -18,12 +18,12 @@ use Rattle.slots.specs.declared.Bits.{Bits}
 use Rattle.predicate.specs.declared.Held.the-variants.{Lazy}
 use Rattle.predicate.specs.declared.Selection.{Selection}
 use Rattle.predicate.specs.declared.Selection.the-variants.{Rows}
-use Rattle.nesting.specs.Rows.{picksOf, Nodes, Level, Top}
+use Rattle.nesting.specs.Rows.{byOffsets, picksOf, Nodes, Level, Top}
 use Rattle.nesting.proofs.ByKind.{of-others}
 use Rattle.nesting.proofs.Runs.{carried-chosen}
 use Rattle.nesting.proofs.Tree.{kept-all, kept-carried}
-use Rattle.fill.specs.Scratch.{plainBits}
-use Rattle.fill.proofs.Reading.{plain-picks, plain-lies, nodes-of, top-long, top-long-few, above-few, takes-above}
+use Rattle.fill.specs.Scratch.{plainBits, takesBitmap}
+use Rattle.fill.proofs.Reading.{plain-picks, plain-lies, nodes-of, top-long, top-long-few, above-few, takes-above, bitmap-above}
 use Rattle.regions.specs.Region.{noneOrAll, Selects, Given, Tells}
 
 -- what selects the rows of a node selects those of one that keeps the same rows
@@ -75,7 +75,7 @@ module _ {m list scratch b table parents counts places : List ℕ} {bits : Bits}
     parent-low = above-few nodes top some
 
     -- the child of a runs node or list: its bitmap
-    by-bitmap : takesScratch b (parent b t) ≡ true → Selects b t (picksOf m bits) (Rows Lazy) scratch (plainBits (getD places t 0) (rows b t)) list
+    by-bitmap : takesBitmap b (parent b t) ≡ true → Selects b t (picksOf m bits) (Rows Lazy) scratch (plainBits (getD places t 0) (rows b t)) list
     by-bitmap e =
         let map = g .bitmaps t some inside e in
         record {
@@ -85,9 +85,9 @@ module _ {m list scratch b table parents counts places : List ℕ} {bits : Bits}
           kept = plain-picks map ∙ sym (kept-all b (picksOf m bits) (g .ready .sound) (g .ready .rooted) t inside);
         }
 
-    pub told-runs : {u : Bool} → u ≡ (eqb (getD table (10 * getD parents t 0) 0) 9 || eqb (getD table (10 * getD parents t 0) 0) 13 || eqb (getD table (10 * getD parents t 0) 0) 14) → u ≡ true
+    pub told-runs : byOffsets b i ≡ false → {u : Bool} → u ≡ (eqb (getD table (10 * getD parents t 0) 0) 9 || eqb (getD table (10 * getD parents t 0) 0) 13 || eqb (getD table (10 * getD parents t 0) 0) 14) → u ≡ true
         → Tells b i (picksOf m bits) m list scratch (record { sel = Rows Lazy; bits = plainBits (getD places t 0) (getD table (10 * t + 2) 0); «in_mask» = false })
-    told-runs a e = rw long (in-scratch (lower (top .level) (by-bitmap (sym (takes-above nodes top some a) ∙ e))))
+    told-runs plain a e = rw long (in-scratch (lower (top .level) (by-bitmap (bitmap-above nodes top some (sym (takes-above nodes top some a) ∙ e) plain))))
 
     -- a carried child: all rows or none
     module _ {u : Bool} (asked : u ≡ (eqb (getD table (10 * getD parents t 0) 0) 9 || eqb (getD table (10 * getD parents t 0) 0) 13 || eqb (getD table (10 * getD parents t 0) 0) 14)) (other : u ≡ false) where

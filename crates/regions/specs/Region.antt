@@ -6,7 +6,6 @@ use mathlib.Core.Path.{_≡_}
 use lib.Dec.{eqb}
 use lib.ListN.{length, getD}
 use Rattle.format.specs.Node.{nodeCount, rows, parent}
-use Rattle.format.specs.Answer.{takesScratch}
 use Rattle.format.specs.Kept.{keptRows}
 use Rattle.format.specs.Slots.{picksFrom}
 use Rattle.slots.specs.declared.Bits.{Bits}
@@ -15,7 +14,7 @@ use Rattle.predicate.specs.declared.Selection.{Selection}
 use Rattle.predicate.specs.declared.Selection.the-variants.{Nothing, Everything}
 use Rattle.predicate.specs.Selection.{Holds, Sourced, keptBy}
 use Rattle.nesting.specs.Rows.{keeps, picksOf, Ready}
-use Rattle.fill.specs.Scratch.{Bitmap}
+use Rattle.fill.specs.Scratch.{Bitmap, takesBitmap}
 use Rattle.regions.specs.declared.Told.{Told}
 
 -- none of n rows where none is kept, and else all
@@ -29,13 +28,13 @@ pub record Selects (b : List ℕ) (i : ℕ) (root : List ℕ) (sel : Selection) 
   pub short : bits .len ≤ rows b i
   pub kept : picksFrom (keptBy sel s bits) (bits .len) 0 ≡ keptRows b root i
 
--- what writing is given: the mask's bits and selection, an accepted journal with its arrays, and scratch with the bitmaps of kept runs and list rows
+-- what writing is given: the mask's bits and selection, an accepted journal with its arrays, and scratch with the bitmaps of kept runs and list rows, as far as they are asked for
 pub record Given (m : List ℕ) (bits : Bits) (sel : Selection) (list scratch b table parents counts places : List ℕ) : Type 0 where
   pub lies : Lies m bits
   pub ready : Ready b (picksOf m bits) table parents counts (nodeCount b)
   pub selects : Selects b 0 (picksOf m bits) sel m bits list
   pub small : length scratch < 2 ^ 60
-  pub bitmaps : (i : ℕ) → 0 < i → i < nodeCount b → takesScratch b (parent b i) ≡ true
+  pub bitmaps : (i : ℕ) → 0 < i → i < nodeCount b → takesBitmap b (parent b i) ≡ true
       → Bitmap (keeps b (picksOf m bits) i) (rows b i) scratch (getD places i 0) (length scratch)
 
 -- a selection of node i's rows, with its bits in the mask or in scratch

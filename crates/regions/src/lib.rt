@@ -1,8 +1,9 @@
 // Which rows each node keeps, as a selection that the column filters take.
 ghost use mathlib.Core.Path.{_≡_};
+ghost use mathlib.Core.Bool.{false};
 ghost use Prim.Native.Nat.{_<_};
 ghost use Rattle.format.specs.Node.{nodeCount};
-ghost use Rattle.nesting.specs.Rows.{picksOf};
+ghost use Rattle.nesting.specs.Rows.{byOffsets, picksOf};
 ghost use Rattle.regions.specs.Region.{noneOrAll, Given, Tells};
 use fill::plain_bits;
 use nesting::table::takes_scratch;
@@ -28,7 +29,7 @@ fn carried(kept: usize, len: usize) -> Selection
     Selection::Everything(len)
 }
 
-// The rows that node i keeps. Struct and union hand on their own; a root's are told by the mask, those of a child of runs or of a list by
+// The rows that node i keeps, where it is not copied by the offsets of a list. Struct and union hand on their own; a root's are told by the mask, those of a child of runs or of a list by
 // its bitmap in scratch, and a carried child keeps all rows or none.
 pub fn rows_of(
     mask: &[u8],
@@ -44,7 +45,7 @@ pub fn rows_of(
     i: usize,
 ) -> Told
     requires { ⌜ Given (now mask) bits sel (now list) (now scratch) (now journal) (now table) (now parents) (now counts) (now places) ⌝ }
-    requires { ⌜ i < nodeCount (now journal) ⌝ }
+    requires { ⌜ (i < nodeCount (now journal)) × (byOffsets (now journal) i ≡ false) ⌝ }
     ensures { λ r. ⌜ Tells (now (journal .entry)) i (picksOf (now (mask .entry)) bits) (now (mask .entry)) (now (list .entry)) (now (scratch .entry)) r ⌝ }
 {
     let t = top_of(journal, table, parents, i);

@@ -10,7 +10,7 @@ use lib.Bits.{bitAnd}
 use lib.Count.{trailingZeros}
 use lib.Dec.{leb}
 use Rattle.format.specs.Slots.{wordFrom, after, All, Sought, FirstRun}
-use Rattle.scan.specs.Asked.{Ones}
+use Rattle.scan.specs.Asked.{Ones, Blank}
 use Rattle.format.proofs.SlotLaws.{all-none, all-one, all-join, all-more, all-less, after-is, after-after}
 use Rattle.format.proofs.WordLaws.{from-ext, from-zero, from-all, Lowest, lowest-set}
 
@@ -96,6 +96,20 @@ module _ {p : ℕ → Bool} {from w a e : ℕ} (f : Scanned p from w a e) where
         before = f .before;
         within = f .within;
         gap = rw m (gap-on (f .gap) (from-zero _ 64 (64 * w) z));
+      }
+
+  -- no slot passes of the words from w up to v
+  pub skips : {len v : ℕ} → Blank p w len v → Scanned p from v a e
+  skips k =
+      let up = k .low in
+      record {
+        low = f .low;
+        order = f .order;
+        near = omega (arith, f .near);
+        begun = f .begun;
+        before = f .before;
+        within = f .within;
+        gap = all-join (f .gap) (k .all);
       }
 
   -- the run reaches word w, and words of ones from there on

@@ -1,6 +1,6 @@
 -- What is asked of a bit source's slots: words of ones, whether any slot of a range passes, and the first run. Assumes nothing.
 use Prim.Native.Nat.{ℕ, _+_, _-_, _*_, _≤_, _<_}
-use mathlib.Core.Bool.{Bool, true}
+use mathlib.Core.Bool.{Bool, true, false}
 use mathlib.Core.List.{List, [], _∷_}
 use Rattle.format.specs.Bytes.{anyBelow}
 use Rattle.format.specs.Slots.{All}
@@ -12,6 +12,12 @@ pub record Ones (p : ℕ → Bool) (from len r : ℕ) : Type 0 where
   pub low : from ≤ r
   pub high : 64 * r < len
   pub all : All p true (64 * from) (64 * r)
+
+-- no slot of the words from `from` up to r passes, and where words are passed slots are left after them
+pub record Blank (p : ℕ → Bool) (from len r : ℕ) : Type 0 where
+  pub low : from ≤ r
+  pub high : 64 * r ≤ 64 * from + (len - 64 * from - 1)
+  pub all : All p false (64 * from) (64 * r)
 
 -- some slot of [lo, hi) passes
 abbrev pub anyIn : (ℕ → Bool) → ℕ → ℕ → Bool

@@ -1,5 +1,5 @@
 -- A bit source: packed bits with an optional validity bitmap in a slice of bytes, and what its readers give. Assumes nothing.
-use Prim.Native.Nat.{ℕ, _+_, _*_, _^_, _≤_, _<_}
+use Prim.Native.Nat.{ℕ, _+_, _*_, _^_, _%_, _≤_, _<_}
 use mathlib.Core.Bool.{Bool, true, not, _&&_, _||_}
 use mathlib.Core.List.{List}
 use mathlib.Core.Path.{_≡_}
@@ -25,3 +25,8 @@ pub record Lies (s : List ℕ) (b : Bits) : Type 0 where
   pub small : length s < 2 ^ 60
   pub values : 8 * b .«values_at» + (b .skip + b .len) ≤ 8 * length s
   pub validity : b .«has_validity» ≡ true → 8 * b .«validity_at» + (b .skip + b .len) ≤ 8 * length s
+
+-- the first n words of slots are whole, and stand in eight bytes each
+pub record ByteWords (b : Bits) (n : ℕ) : Type 0 where
+  pub whole : 64 * n ≤ b .len
+  pub even : 0 < n → b .skip % 8 ≡ 0

@@ -7,11 +7,11 @@ use native.Mathlib.Nat.{add-zero, zero-add, add-assoc, mul-suc, mul-le-mul-left,
 use native.Mathlib.Omega.{arith}
 use lib.ListN.{length}
 use Rattle.format.specs.Bytes.{le}
-use Rattle.format.specs.Rows.{setRows}
+use Rattle.format.specs.Rows.{setRows, Below}
 use Rattle.format.specs.Slots.{pick, picksFrom, countUp}
 use Rattle.words.specs.Run.{LowestRun}
 use Rattle.words.proofs.Carry.{rows-off, run-below, rest-below}
-use Rattle.spans.specs.Spans.{offsetFrom, spans, Rising}
+use Rattle.spans.specs.Spans.{offsetFrom, spans, Rises, Rising}
 
 pub spans-none : (o : ℕ → ℕ) (rs : List ℕ) → rs ≡ [] → spans o rs ≡ 0
 unfolding spans
@@ -21,10 +21,6 @@ pub spans-append : (o : ℕ → ℕ) (xs ys : List ℕ) → spans o (xs ++ ys) �
 unfolding spans
 spans-append o [] ys = sym (zero-add (spans o ys))
 spans-append o (x ∷ xs) ys = rw (spans-append o xs ys) (sym (add-assoc (o (suc x) - o x) (spans o xs) (spans o ys)))
-
--- offsets that do not fall before n
-pub record Rises (o : ℕ → ℕ) (n : ℕ) : Type 0 where
-  pub next : (r : ℕ) → r < n → o r ≤ o (suc r)
 
 module _ (o : ℕ → ℕ) (n : ℕ) (up : Rises o n) where
   -- those of a run span what lies between its first offset and its last
@@ -53,9 +49,31 @@ module _ (o : ℕ → ℕ) (n : ℕ) (up : Rises o n) where
 
 -- ---- the rows of a word, its lowest run off
 
+module _ {word from to rest : ℕ} (h : LowestRun word from to rest) (base : ℕ) {len : ℕ} (below : Below len (setRows base word)) where
+  pub run-inside : base + to ≤ len
+  run-inside = run-below h base below
+
+  -- by any offsets that do not fall
+  module _ {o : ℕ → ℕ} (up : Rises o len) {x y : ℕ} (ex : x ≡ o (base + to)) (ey : y ≡ o (base + from)) where
+    whole : (y ≤ x) × (y + spans o (countUp (base + to - (base + from)) (base + from)) ≡ x)
+    whole =
+        let d : base + from + (base + to - (base + from)) ≡ base + to = omega (arith, h .filled) in
+        let all = spans-run o len up (base + to - (base + from)) (base + from) (omega (arith, d, run-inside)) in
+        rw (ex, ey) (rw d at all)
+
+    pub run-rises : y ≤ x
+    run-rises = whole .0
+
+    pub run-spans : spans o (setRows base word) ≡ x - y + spans o (setRows base rest)
+    run-spans =
+        ap (spans o) (rows-off h base)
+        ∙ spans-append o (countUp (base + to - (base + from)) (base + from)) (setRows base rest)
+        ∙ ap (_+ spans o (setRows base rest)) (omega (arith, whole .0, whole .1))
+
+-- by offsets that are read
 module _ {w : ℕ} {b : List ℕ} {first word from to rest : ℕ} (h : LowestRun word from to rest) (base : ℕ) (r : Rising w b first (setRows base word)) where
   inside : base + to ≤ r .len
-  inside = run-below h base (r .below)
+  inside = run-inside h base (r .below)
 
   pub run-small : (base + from < 2 ^ 64) × (base + to < 2 ^ 64)
   run-small = (omega (arith, inside, r .small, h .filled), omega (arith, inside, r .small))
@@ -72,18 +90,10 @@ module _ {w : ℕ} {b : List ℕ} {first word from to rest : ℕ} (h : LowestRun
   rising-rest = record { len = r .len; small = r .small; below = rest-below h base (r .below); inside = r .inside; next = r .next }
 
   module _ {x y : ℕ} (ex : x ≡ le w b (first + w * (base + to))) (ey : y ≡ le w b (first + w * (base + from))) where
-    whole : (y ≤ x) × (y + spans (offsetFrom w b first) (countUp (base + to - (base + from)) (base + from)) ≡ x)
+    pub read-rises : y ≤ x
     unfolding offsetFrom
-    whole =
-        let d : base + from + (base + to - (base + from)) ≡ base + to = omega (arith, h .filled) in
-        let all = spans-run (offsetFrom w b first) (r .len) (record { next = r .next }) (base + to - (base + from)) (base + from) (omega (arith, d, inside)) in
-        rw (ex, ey) (rw d at all)
+    read-rises = run-rises h base (r .below) {o = offsetFrom w b first} (record { next = r .next }) ex ey
 
-    pub run-rises : y ≤ x
-    run-rises = whole .0
-
-    pub run-spans : spans (offsetFrom w b first) (setRows base word) ≡ x - y + spans (offsetFrom w b first) (setRows base rest)
-    run-spans =
-        ap (spans (offsetFrom w b first)) (rows-off h base)
-        ∙ spans-append (offsetFrom w b first) (countUp (base + to - (base + from)) (base + from)) (setRows base rest)
-        ∙ ap (_+ spans (offsetFrom w b first) (setRows base rest)) (omega (arith, whole .0, whole .1))
+    pub read-spans : spans (offsetFrom w b first) (setRows base word) ≡ x - y + spans (offsetFrom w b first) (setRows base rest)
+    unfolding offsetFrom
+    read-spans = run-spans h base (r .below) {o = offsetFrom w b first} (record { next = r .next }) ex ey

@@ -5,8 +5,17 @@ ghost use mathlib.Core.List.{_∷_, []};
 ghost use Prim.Native.Nat.{_^_, _<_};
 ghost use Rattle.format.specs.Rows.{setRows};
 ghost use Rattle.format.specs.Verdict.{oneOf};
-ghost use Rattle.spans.specs.Spans.{offsetFrom, spans, Rising};
+ghost use Rattle.nesting.specs.Rows.{AtList};
+ghost use Rattle.spans.specs.Spans.{offsetFrom, firstOffset, spans, Rising};
 use nesting::table::number;
+
+// Where row 0's offset of list node i stands, behind those of skipped rows; offsets have w bytes.
+pub fn first_offset(journal: &[u8], table: &[u32; 640], w: usize, i: usize) -> usize
+    requires { ⌜ AtList (now journal) (now table) w i ⌝ }
+    ensures { λ r. ⌜ r ≡ firstOffset (now (table .entry)) w i ⌝ }
+{
+    table[10 * i + 6] as usize + w * (table[10 * i + 3] as usize)
+}
 
 // How much the rows base + k for the set bits k of a word span, by offsets of w bytes from `first` on: run by run.
 pub fn word_spans(journal: &[u8], first: usize, w: usize, base: usize, word: u64) -> usize

@@ -4,5 +4,4 @@ pub mod Keeping
 pub mod Places
 pub mod Minding
 pub mod Telling
-pub mod Counting
 pub mod Spanned

@@ -9,12 +9,12 @@ use native.Mathlib.Decide.{decLe, ℕ-discrete}
 use native.Mathlib.Omega.{arith}
 use borrow.Author.Tests.{eq-eqb, eqb-true}
 use lib.Dec.{eqb, ltb}
-use lib.ListN.{length, getD}
+use lib.ListN.{getD}
 use Rattle.format.specs.declared.Kind.the-variants.{Runs}
-use Rattle.format.specs.Node.{nodeCount, kindNumber, kind, rows, skip, valid, firstNumber, runStart, runEnd, parent}
+use Rattle.format.specs.Node.{nodeCount, kindNumber, kind, rows, valid, firstNumber, runStart, runEnd, parent}
 use Rattle.format.specs.Slots.{All, Sought}
 use Rattle.format.specs.Kept.{keptRows}
-use Rattle.format.specs.Accepted.{Shares, Carries, Nests, OneChild}
+use Rattle.format.specs.Accepted.{Shares, Carries, Nests}
 use Rattle.format.specs.Accepted as is
 use Rattle.slots.specs.declared.Bits.{Bits}
 use Rattle.slots.specs.Source.{slotOf}
@@ -24,6 +24,7 @@ use Rattle.nesting.proofs.Counted.{ready-at}
 use Rattle.nesting.proofs.ListAt.{list-spans, rise-to, child-low, child-rows, child-few, child-in}
 use Rattle.nesting.proofs.RunEdges.{child-inside, skip-is}
 use Rattle.nesting.proofs.Runs.{rowsFrom, rowsTo}
+use Rattle.nesting.proofs.Sieve.{node-few, len-is}
 use Rattle.nesting.proofs.Tree.{run-child, list-child}
 use Rattle.stretches.specs.declared.Place.{Place}
 use Rattle.stretches.specs.Stretches.{Alike, Seen, noted, Ended, Found}
@@ -40,17 +41,8 @@ pub nor : {k : ℕ} → k ≡ 11 → (eqb k 10 || eqb k 11) ≡ false → ⊥
 nor {k} e q = true≢false (sym (ap (eqb k 10 ||_) (eq-eqb k 11 e) ∙ or-true (eqb k 10)) ∙ q)
 
 module _ {b root table parents counts : List ℕ} {node : ℕ} (ready : Ready b root table parents counts node) (h : node < nodeCount b) where
-  pub node-few : node < 64
-  node-few = omega (arith, ready .sound .shape .few)
-
-  len-is : getD table (10 * node + 2) 0 ≡ rows b node
-  len-is = rows-at b (ready .tabled) node h
-
-  pub len-fits : getD table (10 * node + 2) 0 ≤ 1_048_576
-  len-fits = rw len-is (rows-small (ready .sound) node h)
-
   pub in-len : {r : ℕ} → r < rows b node → r < getD table (10 * node + 2) 0
-  in-len l = rw len-is l
+  in-len l = rw (len-is ready h) l
 
   module _ (some : 0 < node) where
     is-parent : getD parents node 0 ≡ parent b node
@@ -60,7 +52,7 @@ module _ {b root table parents counts : List ℕ} {node : ℕ} (ready : Ready b 
     up = rw is-parent (ready .sound .shape .above node some)
 
     pub up-few : getD parents node 0 < 64
-    up-few = omega (arith, up, node-few)
+    up-few = omega (arith, up, node-few ready h)
 
     pub up-inside : getD parents node 0 < nodeCount b
     up-inside = omega (arith, up)
@@ -129,8 +121,8 @@ module _ {b root table parents counts : List ℕ} {node : ℕ} (ready : Ready b 
         of-others b (getD parents node 0) (rw is-parent (ready .sound .shape .inner node some h)) (λ e. f (kind-up ∙ e)) (λ e. m (kind-up ∙ e)) (λ e. n (kind-up ∙ e)) (not-shared b (getD parents node 0) (λ e. neither (kind-up ∙ e) s) (λ e. nor (kind-up ∙ e) s)) in
         record {
           some = in-len l;
-          high = omega (arith, len-is);
-          same = record { at = λ j _ k. sym (keeps-carried b root (ready .sound) (ready .rooted) node (getD parents node 0) some is-parent c j (omega (arith, len-is))) ∙ ap (ltb 0) (sym (ready .counted .at (getD parents node 0) up)) };
+          high = omega (arith, len-is ready h);
+          same = record { at = λ j _ k. sym (keeps-carried b root (ready .sound) (ready .rooted) node (getD parents node 0) some is-parent c j (omega (arith, len-is ready h))) ∙ ap (ltb 0) (sym (ready .counted .at (getD parents node 0) up)) };
         }
 
 -- the same node by its parent's number

@@ -8,8 +8,7 @@ use mir.Val.{boolByte}
 use lib.ListN.{length, getD, set}
 use Rattle.format.specs.Node.{nodeCount, rows, skip, valid, firstNumber, runEnd}
 use Rattle.format.specs.Slots.{All}
-use Rattle.format.specs.Kept.{keptRows}
-use Rattle.nesting.specs.Rows.{keeps, Sifted, AtRuns, AtList}
+use Rattle.nesting.specs.Rows.{keeps}
 use Rattle.stretches.specs.declared.Place.{Place}
 
 -- of n rows, row r and those after it up to e are alike: all pass the test, or none
@@ -54,11 +53,3 @@ pub record Found (w : ℕ) (b : List ℕ) (i x : ℕ) (a : Place) : Type 0 where
   pub isValid : a .end ≤ x → valid b i (a .row) ≡ true
   pub low : a .end ≤ x → firstNumber w b i (a .row) ≤ x
   pub past : a .end ≤ x → x < firstNumber w b i (suc (a .row))
-
--- node p, whose kind has number k, is a runs node or a list that keeps the root's rows
-pub record Handed (b root table : List ℕ) (k p : ℕ) : Type 0 where
-  pub rooted : Sifted root (rows b p)
-  pub same : (rs : List ℕ) → keptRows b rs p ≡ rs
-  pub runs : k ≡ 9 → AtRuns b table p
-  pub lists32 : k ≡ 13 → AtList b table 4 p
-  pub lists64 : (k ≡ 9 → ⊥) → (k ≡ 13 → ⊥) → AtList b table 8 p

@@ -1,5 +1,4 @@
-// Which rows each node keeps, and how many, without a buffer: stretch by stretch of rows that are alike.
-pub mod count;
+// Which rows each node keeps, without a buffer: stretch by stretch of rows that are alike.
 mod parts;
 pub mod told;
 

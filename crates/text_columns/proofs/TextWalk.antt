@@ -21,7 +21,7 @@ use Rattle.predicate.specs.Selection.{picksOn, InStep, Holds, start}
 use Rattle.predicate.specs.Blocks.{Blocked, Gives}
 use Rattle.predicate.proofs.Picks.{picks-start}
 use Rattle.append.specs.Cells.{Among}
-use Rattle.texts.specs.Texts.{offset, sizesOf, textsOf, endsFrom, totalOf, Offsets, Texts}
+use Rattle.texts.specs.Texts.{offset, startIn, sizesOf, textsOf, endsFrom, totalOf, Offsets, Texts}
 use Rattle.texts.proofs.TextLaws.{texts-none, texts-append, texts-fewer, offsets-fewer, sizes-append, total-append, ends-append, numbers-offsets, rises, Ending, begins, ended, same}
 use Rattle.texts.proofs.NodeLaws.{total-chosen}
 use Rattle.columns.proofs.Walk.{Cuts, Walked, walk-room, among}
@@ -31,19 +31,19 @@ use Rattle.columns.proofs.Walk.{Cuts, Walked, walk-room, among}
 pub texts-cut : (o : ℕ → ℕ) (b : List ℕ) (from : ℕ) → Cuts (textsOf o b from)
 texts-cut o b from = record { none = texts-none o b from [] refl; parts = texts-append o b from }
 
-module _ {w : ℕ} {b : List ℕ} {first from : ℕ} {sel : Selection} {p : ℕ → Bool} {len : ℕ} {list old : List ℕ} {at : ℕ} {new : List ℕ} {here : ℕ} {cur : Cursor}
-    (k : Walked (textsOf (offset w b first) b from) sel p len list old at new here cur) (h : Texts w b first from len) (fit : at + length (textsOf (offset w b first) b from (picksFrom p len 0)) ≤ length old) {d : Cursor} where
+module _ {u w : ℕ} {b : List ℕ} {first from : ℕ} {sel : Selection} {p : ℕ → Bool} {len : ℕ} {list old : List ℕ} {at : ℕ} {new : List ℕ} {here : ℕ} {cur : Cursor}
+    (k : Walked (textsOf (startIn u w b first) b from) sel p len list old at new here cur) (h : Texts u w b first from len) (fit : at + length (textsOf (startIn u w b first) b from (picksFrom p len 0)) ≤ length old) {d : Cursor} where
   pub run-texts : {a e : ℕ} → Blocked sel p len list (cur .place) (Run a e d)
-      → ((a ≤ e) × Texts w b first from e) × (here + length (textsOf (offset w b first) b from (countUp (e - a) a)) ≤ length new)
-  run-texts {a} {e} g = ((g .0, texts-fewer e (g .1) h), walk-room k (texts-cut (offset w b first) b from) (g .2) fit)
+      → ((a ≤ e) × Texts u w b first from e) × (here + length (textsOf (startIn u w b first) b from (countUp (e - a) a)) ≤ length new)
+  run-texts {a} {e} g = ((g .0, texts-fewer e (g .1) h), walk-room k (texts-cut (startIn u w b first) b from) (g .2) fit)
 
   pub word-texts : {base : ℕ} {xs : List ℕ} → (base ≤ len) × Gives sel p len list (cur .place) xs d
-      → Among (Texts w b first from) xs × (here + length (textsOf (offset w b first) b from xs) ≤ length new)
-  word-texts g = (among (g .1) h, walk-room k (texts-cut (offset w b first) b from) (g .1) fit)
+      → Among (Texts u w b first from) xs × (here + length (textsOf (startIn u w b first) b from xs) ≤ length new)
+  word-texts g = (among (g .1) h, walk-room k (texts-cut (startIn u w b first) b from) (g .1) fit)
 
   pub list-texts : {i j : ℕ} → Blocked sel p len list (cur .place) (Listed i j d)
-      → ((i ≤ j) × (j ≤ length list)) × (Among (Texts w b first from) (bytesAt list i (j - i)) × (here + length (textsOf (offset w b first) b from (bytesAt list i (j - i))) ≤ length new))
-  list-texts g = ((g .0, g .1), (among (g .2) h, walk-room k (texts-cut (offset w b first) b from) (g .2) fit))
+      → ((i ≤ j) × (j ≤ length list)) × (Among (Texts u w b first from) (bytesAt list i (j - i)) × (here + length (textsOf (startIn u w b first) b from (bytesAt list i (j - i))) ≤ length new))
+  list-texts g = ((g .0, g .1), (among (g .2) h, walk-room k (texts-cut (startIn u w b first) b from) (g .2) fit))
 
 -- ---- rebuilt offsets
 

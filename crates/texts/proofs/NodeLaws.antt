@@ -13,7 +13,7 @@ use Rattle.format.specs.Write.{numbers}
 use Rattle.format.proofs.Numbers.{length-bytes, numbers-cons}
 use Rattle.append.specs.Cells.{Among}
 use Rattle.append.proofs.CellLaws.{among-others}
-use Rattle.texts.specs.Texts.{offset, size, sizesOf, text, textsOf, endsFrom, totalOf, Texts}
+use Rattle.texts.specs.Texts.{offset, startIn, size, sizesOf, text, textsOf, endsFrom, totalOf, Texts}
 use Rattle.texts.proofs.TextLaws.{total-none, total-cons, total-append, sizes-append, text-fits, Rises}
 
 -- ---- the cells of node i, with the skip in the place of row 0
@@ -23,11 +23,16 @@ module _ (w : ℕ) (b : List ℕ) (i : ℕ) where
   unfolding offset firstNumber
   first-offset r = ap (le w b) (omega (arith, mul-add w (skip b i) r))
 
-  own-text : (r : ℕ) → text (offset w b (firstAt b i + w * skip b i)) b (secondAt b i) r ≡ ownBytes w b i r
-  unfolding text size ownBytes
-  own-text r = rw (first-offset r, first-offset (suc r))
+  -- bytes are entries of 1 byte
+  first-start : (r : ℕ) → startIn 1 w b (firstAt b i + w * skip b i) r ≡ firstNumber w b i r
+  unfolding startIn
+  first-start r = omega (arith, first-offset r)
 
-  pub own-texts : (rs : List ℕ) → textsOf (offset w b (firstAt b i + w * skip b i)) b (secondAt b i) rs ≡ join (map (ownBytes w b i) rs)
+  own-text : (r : ℕ) → text (startIn 1 w b (firstAt b i + w * skip b i)) b (secondAt b i) r ≡ ownBytes w b i r
+  unfolding text size ownBytes
+  own-text r = rw (first-start r, first-start (suc r))
+
+  pub own-texts : (rs : List ℕ) → textsOf (startIn 1 w b (firstAt b i + w * skip b i)) b (secondAt b i) rs ≡ join (map (ownBytes w b i) rs)
   unfolding textsOf
   own-texts rs = ap join (map-congr-left {l = rs} (λ r _. own-text r))
 
@@ -35,25 +40,17 @@ module _ (w : ℕ) (b : List ℕ) (i : ℕ) where
 
 -- each row's own bytes are as many as its size says
 module _ (w : ℕ) (b : List ℕ) (first start : ℕ) where
-  length-text : (r : ℕ) (rs : List ℕ) → Among (Texts w b first start) (r ∷ rs) → length (text (offset w b first) b start r) ≡ size (offset w b first) r
-  unfolding text
-  length-text r rs h = length-bytes b (start + offset w b first r) (size (offset w b first) r) (text-fits h refl)
+  length-text : (r : ℕ) (rs : List ℕ) → Among (Texts 1 w b first start) (r ∷ rs) → length (text (startIn 1 w b first) b start r) ≡ size (offset w b first) r
+  unfolding text size startIn
+  length-text r rs h = length-bytes b (start + startIn 1 w b first r) (size (startIn 1 w b first) r) (text-fits h refl) ∙ omega arith
 
-  pub text-sizes : (rs : List ℕ) → Among (Texts w b first start) rs → map length (map (text (offset w b first) b start) rs) ≡ sizesOf (offset w b first) rs
+  text-sizes : (rs : List ℕ) → Among (Texts 1 w b first start) rs → map length (map (text (startIn 1 w b first) b start) rs) ≡ sizesOf (offset w b first) rs
   unfolding sizesOf
   text-sizes [] h = refl
   text-sizes (r ∷ rs) h = ap₂ _∷_ (length-text r rs h) (text-sizes rs (among-others h refl))
 
-  pub length-texts : (rs : List ℕ) → Among (Texts w b first start) rs → length (textsOf (offset w b first) b start rs) ≡ totalOf (sizesOf (offset w b first) rs)
-  unfolding textsOf join sizesOf
-  length-texts [] h = sym total-none
-  length-texts (r ∷ rs) h =
-      length-append (text (offset w b first) b start r) (textsOf (offset w b first) b start rs)
-      ∙ ap₂ _+_ (length-text r rs h) (length-texts rs (among-others h refl))
-      ∙ sym (total-cons (size (offset w b first) r) (sizesOf (offset w b first) rs))
-
 -- the sizes of the kept bytes of node i
-pub own-sizes : (w : ℕ) (b : List ℕ) (i : ℕ) (rs : List ℕ) → Among (Texts w b (firstAt b i + w * skip b i) (secondAt b i)) rs
+pub own-sizes : (w : ℕ) (b : List ℕ) (i : ℕ) (rs : List ℕ) → Among (Texts 1 w b (firstAt b i + w * skip b i) (secondAt b i)) rs
     → map length (map (ownBytes w b i) rs) ≡ sizesOf (offset w b (firstAt b i + w * skip b i)) rs
 own-sizes w b i rs h = ap (map length) (sym (map-congr-left {l = rs} (λ r _. own-text w b i r))) ∙ text-sizes w b _ _ rs h
 

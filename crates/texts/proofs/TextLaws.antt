@@ -2,6 +2,7 @@
 use Prim.Native.Nat.{ℕ, zero, suc, _+_, _-_, _*_, _≤_, _<_}
 use mathlib.Core.Path.{_≡_, refl, sym, ap, ap₂, _∙_}
 use mathlib.Core.List.{List, [], _∷_, _++_}
+use mathlib.Core.Logic.{⊎-elim}
 use native.Mathlib.Nat.{add-zero, zero-add, add-assoc, mul-suc, mul-le-mul-left, le-refl, le-trans}
 use native.Mathlib.Numerals.{add-one}
 use native.Mathlib.Omega.{arith}
@@ -17,7 +18,7 @@ use Rattle.format.proofs.Measure.{length-toLe}
 use Rattle.format.proofs.Numbers.{table-front, table-ext, sum-front, numbers-none, numbers-cons, bytes-none, bytes-same, bytes-join, length-bytes}
 use Rattle.format.proofs.Put.{Left, whole, less, room, done, kept}
 use Rattle.append.specs.Cells.{Among}
-use Rattle.texts.specs.Texts.{offset, size, sizesOf, text, textsOf, endsFrom, totalOf, Offsets, Texts}
+use Rattle.texts.specs.Texts.{offset, startIn, size, sizesOf, text, textsOf, endsFrom, totalOf, Offsets, Texts}
 use Rattle.append.proofs.CellLaws.{among-first, each-none, each-more, each-append}
 
 -- ---- the sum of sizes, and where each row ends
@@ -123,6 +124,11 @@ pub record Rises (o : ℕ → ℕ) (n : ℕ) : Type 0 where
 pub rises : {w : ℕ} {b : List ℕ} {first n : ℕ} → Offsets w b first n → Rises (offset w b first) n
 rises h = record { next = h .rising }
 
+-- nor do they in data of entries of u bytes
+pub starts-rise : (u : ℕ) {w : ℕ} {b : List ℕ} {first n : ℕ} → Offsets w b first n → Rises (startIn u w b first) n
+unfolding startIn
+starts-rise u h = record { next = λ r l. mul-le-mul-left u (h .rising r l) }
+
 module _ (o : ℕ → ℕ) (n : ℕ) (up : Rises o n) where
   risen-by : (a k : ℕ) → a + k ≤ n → o a ≤ o (a + k)
   risen-by a zero h = rw add-zero (le-refl _)
@@ -174,19 +180,25 @@ module _ {w : ℕ} {b : List ℕ} {first : ℕ} {rs ts : List ℕ} {r : ℕ} (h 
   pub offset-rises : offset w b first r ≤ offset w b first (suc r)
   offset-rises = h .holds .rising r (among-first h e)
 
-module _ {w : ℕ} {b : List ℕ} {first start : ℕ} {rs ts : List ℕ} {r : ℕ} (h : Among (Texts w b first start) rs) (e : rs ≡ r ∷ ts) where
-  pub text-fits : start + offset w b first r + size (offset w b first) r ≤ length b
-  text-fits = omega (arith, size-ends (offset w b first) (h .len) (rises (h .holds .offsets)) r (among-first h e), h .holds .within)
-
-  pub text-room : {old : List ℕ} {at : ℕ} {bs new : List ℕ} {here : ℕ} → Left old at bs new here (textsOf (offset w b first) b start rs) → at + length bs ≤ length old → here + size (offset w b first) r ≤ length new
-  text-room left fit =
-      rw (length-bytes b (start + offset w b first r) (size (offset w b first) r) text-fits) at
-      (room (bytesAt b (start + offset w b first r) (size (offset w b first) r)) (textsOf (offset w b first) b start ts) left (texts-more (offset w b first) b start e) fit)
-
-pub texts-offsets : {w : ℕ} {b : List ℕ} {first start : ℕ} {rs : List ℕ} → Among (Texts w b first start) rs → Among (Offsets w b first) rs
-texts-offsets h = record { len = h .len; below = h .below; holds = h .holds .offsets }
-
 -- ---- a run of rows, whose first offset is p and whose last is q
+
+-- a usize numbers the rows, and their offsets lie in b
+pub rows-few : {u w : ℕ} {b : List ℕ} {first start n : ℕ} → Texts u w b first start n → n ≤ length b
+rows-few {n = n} h = ⊎-elim
+    (λ e. omega (arith, rw e at (h .offsets .inside)))
+    (λ e. omega (arith, rw e at (h .offsets .inside)))
+    (h .width)
+
+pub offset-in : {u w : ℕ} {b : List ℕ} {first start n : ℕ} (r : ℕ) → r ≤ n → Texts u w b first start n → first + w * r + w ≤ length b
+offset-in {u} {w} {n = n} r l h = omega (arith, h .offsets .inside, mul-suc w n, mul-le-mul-left w l)
+
+pub start-in : {u w : ℕ} {b : List ℕ} {first start n : ℕ} (r : ℕ) → r ≤ n → Texts u w b first start n → startIn u w b first r ≤ length b
+start-in {u} {w} {b} {first} {start} {n} r l h = omega (arith, risen (startIn u w b first) n (starts-rise u (h .offsets)) r n l (le-refl n), h .within)
+
+-- where the code finds row r's own bytes
+pub start-is : (u w : ℕ) (b : List ℕ) (first r : ℕ) {x : ℕ} → x ≡ offset w b first r → u * x ≡ startIn u w b first r
+unfolding startIn
+start-is u w b first r e = ap (u *_) e
 
 -- fewer rows
 pub offsets-fewer : {w : ℕ} {b : List ℕ} {first n : ℕ} (m : ℕ) → m ≤ n → Offsets w b first n → Offsets w b first m
@@ -195,32 +207,55 @@ offsets-fewer {w} {b} {first} {n} m l h = record {
   rising = λ r k. h .rising r (omega arith);
 }
 
-pub texts-fewer : {w : ℕ} {b : List ℕ} {first start n : ℕ} (m : ℕ) → m ≤ n → Texts w b first start n → Texts w b first start m
-texts-fewer {w} {b} {first} {start} {n} m l h = record {
+pub texts-fewer : {u w : ℕ} {b : List ℕ} {first start n : ℕ} (m : ℕ) → m ≤ n → Texts u w b first start n → Texts u w b first start m
+texts-fewer {u} {w} {b} {first} {start} {n} m l h = record {
+  width = h .width;
   offsets = offsets-fewer m l (h .offsets);
-  within = omega (arith, h .within, risen (offset w b first) n (rises (h .offsets)) m n l (le-refl n));
+  within = omega (arith, h .within, risen (startIn u w b first) n (starts-rise u (h .offsets)) m n l (le-refl n));
 }
 
+module _ {u w : ℕ} {b : List ℕ} {first start : ℕ} {rs ts : List ℕ} {r : ℕ} (h : Among (Texts u w b first start) rs) (e : rs ≡ r ∷ ts) where
+  pub text-fits : start + startIn u w b first r + size (startIn u w b first) r ≤ length b
+  text-fits = omega (arith, size-ends (startIn u w b first) (h .len) (starts-rise u (h .holds .offsets)) r (among-first h e), h .holds .within)
+
+  -- the row is a run of its own, the first of what is left to write
+  pub row-texts : (r ≤ r + 1) × Texts u w b first start (r + 1)
+  row-texts = (omega arith, texts-fewer (r + 1) (omega (arith, among-first h e)) (h .holds))
+
+-- the first row of those left is a run of its own
+module _ (o : ℕ → ℕ) (b : List ℕ) (start : ℕ) {rs ts : List ℕ} {r : ℕ} (e : rs ≡ r ∷ ts) {old : List ℕ} {at : ℕ} {bs new : List ℕ} {here : ℕ} (left : Left old at bs new here (textsOf o b start rs)) where
+  row-off : textsOf o b start rs ≡ textsOf o b start (countUp (r + 1 - r) r) ++ textsOf o b start ts
+  unfolding countUp
+  row-off =
+      let one : r + 1 - r ≡ 1 = omega arith in
+      rw one (ap (textsOf o b start) e ∙ texts-append o b start (r ∷ []) ts)
+
+  pub row-room : at + length bs ≤ length old → here + length (textsOf o b start (countUp (r + 1 - r) r)) ≤ length new
+  row-room fit = room (textsOf o b start (countUp (r + 1 - r) r)) (textsOf o b start ts) left row-off fit
+
+  pub row-less : {last : List ℕ} {next : ℕ} → Wrote new here (textsOf o b start (countUp (r + 1 - r) r)) last next → Left old at bs last next (textsOf o b start ts)
+  row-less w = less {xs = textsOf o b start (countUp (r + 1 - r) r)} left row-off w
+
 -- a word's lowest run
-pub run-texts-fit : {w : ℕ} {b : List ℕ} {first start word from to rest : ℕ} → LowestRun word from to rest → (base : ℕ) → Among (Texts w b first start) (setRows base word)
-    → (base + from ≤ base + to) × Texts w b first start (base + to)
+pub run-texts-fit : {u w : ℕ} {b : List ℕ} {first start word from to rest : ℕ} → LowestRun word from to rest → (base : ℕ) → Among (Texts u w b first start) (setRows base word)
+    → (base + from ≤ base + to) × Texts u w b first start (base + to)
 run-texts-fit {to = to} h base a = (omega (arith, h .filled), texts-fewer (base + to) (run-below h base (a .below)) (a .holds))
 
-module _ {w : ℕ} {b : List ℕ} {first start a e p q : ℕ} (h : Texts w b first start e) (up : a ≤ e) (low : p ≡ offset w b first a) (high : q ≡ offset w b first e) where
+module _ {u w : ℕ} {b : List ℕ} {first start a e p q : ℕ} (h : Texts u w b first start e) (up : a ≤ e) (low : p ≡ startIn u w b first a) (high : q ≡ startIn u w b first e) where
   pub run-order : p ≤ q
-  run-order = omega (arith, risen (offset w b first) e (rises (h .offsets)) a e up (le-refl e))
+  run-order = omega (arith, risen (startIn u w b first) e (starts-rise u (h .offsets)) a e up (le-refl e))
 
   pub run-inside : start + p + (q - p) ≤ length b
   run-inside = omega (arith, run-order, h .within)
 
-  pub run-texts : bytesAt b (start + p) (q - p) ≡ textsOf (offset w b first) b start (countUp (e - a) a)
+  pub run-texts : bytesAt b (start + p) (q - p) ≡ textsOf (startIn u w b first) b start (countUp (e - a) a)
   run-texts =
       let end : a + (e - a) ≡ e = omega arith in
-      let whole : textsOf (offset w b first) b start (countUp (e - a) a) ≡ bytesAt b (start + offset w b first a) (offset w b first e - offset w b first a) =
-      rw end at (texts-run (offset w b first) e (rises (h .offsets)) b start (e - a) a (omega arith)) in
+      let whole : textsOf (startIn u w b first) b start (countUp (e - a) a) ≡ bytesAt b (start + startIn u w b first a) (startIn u w b first e - startIn u w b first a) =
+      rw end at (texts-run (startIn u w b first) e (starts-rise u (h .offsets)) b start (e - a) a (omega arith)) in
       rw (low, high) (sym whole)
 
-  pub run-length : length (textsOf (offset w b first) b start (countUp (e - a) a)) ≡ q - p
+  pub run-length : length (textsOf (startIn u w b first) b start (countUp (e - a) a)) ≡ q - p
   run-length = ap length (sym run-texts) ∙ length-bytes b (start + p) (q - p) run-inside
 
 -- the ends of a run's rows are its offsets, all moved by the same distance

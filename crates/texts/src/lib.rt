@@ -1,4 +1,5 @@
 // Rows with own bytes: the bytes of the rows that a block gives, and their offsets rebuilt, which a running sum carries from block to block.
+ghost use mathlib.Core.Logic.{_⊎_};
 ghost use mathlib.Core.Path.{_≡_};
 ghost use Prim.Native.Nat.{suc, _+_, _*_, _-_, _^_, _≤_, _<_};
 ghost use lib.ListN.{length};
@@ -8,12 +9,111 @@ ghost use Rattle.format.specs.Rows.{setRows};
 ghost use Rattle.format.specs.Slots.{countUp};
 ghost use Rattle.format.specs.Write.{numbers};
 ghost use Rattle.append.specs.Cells.{Among};
-ghost use Rattle.texts.specs.Texts.{offset, size, sizesOf, textsOf, endsFrom, totalOf, Offsets, Texts};
+ghost use Rattle.texts.specs.Texts.{offset, startIn, size, sizesOf, textsOf, endsFrom, totalOf, Offsets, Texts};
 
 // Where the next write goes, and where the last row ends.
 pub struct Ended {
     pub next: usize,
     pub sum: usize,
+}
+
+// Row r's offset, of 4 or 8 bytes.
+fn offset_at(src: &[u8], first: usize, w: usize, row: usize) -> usize
+    requires { ⌜ (w ≡ 4) ⊎ (w ≡ 8) ⌝ }
+    requires { ⌜ first + w * row + w ≤ length (now src) ⌝ }
+    ensures { λ r. ⌜ r ≡ offset w (now (src .entry)) first row ⌝ }
+{
+    if w == 4 {
+        return words::get32(src, first + 4 * row) as usize;
+    }
+    words::get64(src, first + 8 * row) as usize
+}
+
+// What rows a to e have of their own, by offsets of w bytes: one part of the data, since the rows follow each other. A byte column's data are bytes, u = 1; a list's
+// are the entries of its child, u bytes each. Runs within a word are short: at 50 % `copy` takes 1.7 times as long.
+pub fn texts_run(
+    out: &mut [u8],
+    at: usize,
+    src: &[u8],
+    first: usize,
+    w: usize,
+    start: usize,
+    u: usize,
+    a: usize,
+    e: usize,
+) -> usize
+    requires { ⌜ (a ≤ e) × Texts u w (now src) first start e ⌝ }
+    requires { ⌜ at + length (textsOf (startIn u w (now src) first) (now src) start (countUp (e - a) a)) ≤ length (now out) ⌝ }
+    ensures { λ r. ⌜ Wrote (now (out .entry)) at (textsOf (startIn u w (now (src .entry)) first) (now (src .entry)) start (countUp (e - a) a)) (now (out .exit)) r ⌝ }
+{
+    let low = u * offset_at(src, first, w, a);
+    let high = u * offset_at(src, first, w, e);
+    copies::copy_short(out, at, src, start + low, high - low)
+}
+
+// The same of the rows base + k for the set bits k of a word, run by run: at 50 % in 2.8 ns a row of the journal against 4.5 row by row, at 80 % in 3.9
+// against 9 (rows of 0 to 24 bytes).
+pub fn texts_word(
+    out: &mut [u8],
+    at: usize,
+    src: &[u8],
+    first: usize,
+    w: usize,
+    start: usize,
+    u: usize,
+    base: usize,
+    word: u64,
+) -> usize
+    requires { ⌜ Among (Texts u w (now src) first start) (setRows base word) ⌝ }
+    requires { ⌜ at + length (textsOf (startIn u w (now src) first) (now src) start (setRows base word)) ≤ length (now out) ⌝ }
+    ensures { λ r. ⌜ Wrote (now (out .entry)) at (textsOf (startIn u w (now (src .entry)) first) (now (src .entry)) start (setRows base word)) (now (out .exit)) r ⌝ }
+{
+    let mut rest = word;
+    let mut here = at;
+    while rest != 0 {
+        let run = words::low_run(rest);
+        here = texts_run(
+            out,
+            here,
+            src,
+            first,
+            w,
+            start,
+            u,
+            base + run.from,
+            base + run.to,
+        );
+        rest = run.rest;
+    }
+    here
+}
+
+// The same of the rows that entries i to j of a list name.
+pub fn texts_list(
+    out: &mut [u8],
+    at: usize,
+    src: &[u8],
+    first: usize,
+    w: usize,
+    start: usize,
+    u: usize,
+    list: &[u32],
+    i: usize,
+    j: usize,
+) -> usize
+    requires { ⌜ (i ≤ j) × (j ≤ length (now list)) ⌝ }
+    requires { ⌜ Among (Texts u w (now src) first start) (bytesAt (now list) i (j - i)) ⌝ }
+    requires { ⌜ at + length (textsOf (startIn u w (now src) first) (now src) start (bytesAt (now list) i (j - i))) ≤ length (now out) ⌝ }
+    ensures { λ r. ⌜ Wrote (now (out .entry)) at (textsOf (startIn u w (now (src .entry)) first) (now (src .entry)) start (bytesAt (now (list .entry)) i (j - i))) (now (out .exit)) r ⌝ }
+{
+    let mut here = at;
+    let mut k = i;
+    while k < j {
+        let row = list[k] as usize;
+        k += 1;
+        here = texts_run(out, here, src, first, w, start, u, row, row + 1);
+    }
+    here
 }
 
 // How many own bytes row r has, by offsets of 4 bytes.
@@ -25,78 +125,6 @@ fn size32(src: &[u8], first: usize, row: usize) -> usize
     let low = words::get32(src, first + 4 * row);
     let high = words::get32(src, first + 4 * row + 4);
     (high - low) as usize
-}
-
-// The own bytes of rows a to e: one part of the data, since the rows follow each other. Runs within a word are short: at 50 % `copy` takes 1.7 times as long.
-pub fn texts_run32(
-    out: &mut [u8],
-    at: usize,
-    src: &[u8],
-    first: usize,
-    start: usize,
-    a: usize,
-    e: usize,
-) -> usize
-    requires { ⌜ (a ≤ e) × Texts 4 (now src) first start e ⌝ }
-    requires { ⌜ at + length (textsOf (offset 4 (now src) first) (now src) start (countUp (e - a) a)) ≤ length (now out) ⌝ }
-    ensures { λ r. ⌜ Wrote (now (out .entry)) at (textsOf (offset 4 (now (src .entry)) first) (now (src .entry)) start (countUp (e - a) a)) (now (out .exit)) r ⌝ }
-{
-    let low = words::get32(src, first + 4 * a) as usize;
-    let high = words::get32(src, first + 4 * e) as usize;
-    copies::copy_short(out, at, src, start + low, high - low)
-}
-
-// The own bytes of the rows base + k for the set bits k of a word, run by run: at 50 % in 2.8 ns a row of the journal against 4.5 row by row, at 80 % in 3.9
-// against 9 (rows of 0 to 24 bytes).
-pub fn texts_word32(
-    out: &mut [u8],
-    at: usize,
-    src: &[u8],
-    first: usize,
-    start: usize,
-    base: usize,
-    word: u64,
-) -> usize
-    requires { ⌜ Among (Texts 4 (now src) first start) (setRows base word) ⌝ }
-    requires { ⌜ at + length (textsOf (offset 4 (now src) first) (now src) start (setRows base word)) ≤ length (now out) ⌝ }
-    ensures { λ r. ⌜ Wrote (now (out .entry)) at (textsOf (offset 4 (now (src .entry)) first) (now (src .entry)) start (setRows base word)) (now (out .exit)) r ⌝ }
-{
-    let mut rest = word;
-    let mut here = at;
-    while rest != 0 {
-        let run = words::low_run(rest);
-        here = texts_run32(out, here, src, first, start, base + run.from, base + run.to);
-        rest = run.rest;
-    }
-    here
-}
-
-// The own bytes of the rows that entries i to j of a list name.
-pub fn texts_list32(
-    out: &mut [u8],
-    at: usize,
-    src: &[u8],
-    first: usize,
-    start: usize,
-    list: &[u32],
-    i: usize,
-    j: usize,
-) -> usize
-    requires { ⌜ (i ≤ j) × (j ≤ length (now list)) ⌝ }
-    requires { ⌜ Among (Texts 4 (now src) first start) (bytesAt (now list) i (j - i)) ⌝ }
-    requires { ⌜ at + length (textsOf (offset 4 (now src) first) (now src) start (bytesAt (now list) i (j - i))) ≤ length (now out) ⌝ }
-    ensures { λ r. ⌜ Wrote (now (out .entry)) at (textsOf (offset 4 (now (src .entry)) first) (now (src .entry)) start (bytesAt (now (list .entry)) i (j - i))) (now (out .exit)) r ⌝ }
-{
-    let mut here = at;
-    let mut k = i;
-    while k < j {
-        let row = list[k] as usize;
-        k += 1;
-        let low = words::get32(src, first + 4 * row) as usize;
-        let n = size32(src, first, row);
-        here = copies::copy_short(out, here, src, start + low, n);
-    }
-    here
 }
 
 // Where each of rows a to e ends, in 4 bytes, if the first starts at `sum`: each offset moved by the same distance, so no sum is carried.
@@ -201,78 +229,6 @@ fn size64(src: &[u8], first: usize, row: usize) -> usize
     let low = words::get64(src, first + 8 * row);
     let high = words::get64(src, first + 8 * row + 8);
     (high - low) as usize
-}
-
-// The own bytes of rows a to e: one part of the data, since the rows follow each other. Runs within a word are short: at 50 % `copy` takes 1.7 times as long.
-pub fn texts_run64(
-    out: &mut [u8],
-    at: usize,
-    src: &[u8],
-    first: usize,
-    start: usize,
-    a: usize,
-    e: usize,
-) -> usize
-    requires { ⌜ (a ≤ e) × Texts 8 (now src) first start e ⌝ }
-    requires { ⌜ at + length (textsOf (offset 8 (now src) first) (now src) start (countUp (e - a) a)) ≤ length (now out) ⌝ }
-    ensures { λ r. ⌜ Wrote (now (out .entry)) at (textsOf (offset 8 (now (src .entry)) first) (now (src .entry)) start (countUp (e - a) a)) (now (out .exit)) r ⌝ }
-{
-    let low = words::get64(src, first + 8 * a) as usize;
-    let high = words::get64(src, first + 8 * e) as usize;
-    copies::copy_short(out, at, src, start + low, high - low)
-}
-
-// The own bytes of the rows base + k for the set bits k of a word, run by run: at 50 % in 2.8 ns a row of the journal against 4.5 row by row, at 80 % in 3.9
-// against 9 (rows of 0 to 24 bytes).
-pub fn texts_word64(
-    out: &mut [u8],
-    at: usize,
-    src: &[u8],
-    first: usize,
-    start: usize,
-    base: usize,
-    word: u64,
-) -> usize
-    requires { ⌜ Among (Texts 8 (now src) first start) (setRows base word) ⌝ }
-    requires { ⌜ at + length (textsOf (offset 8 (now src) first) (now src) start (setRows base word)) ≤ length (now out) ⌝ }
-    ensures { λ r. ⌜ Wrote (now (out .entry)) at (textsOf (offset 8 (now (src .entry)) first) (now (src .entry)) start (setRows base word)) (now (out .exit)) r ⌝ }
-{
-    let mut rest = word;
-    let mut here = at;
-    while rest != 0 {
-        let run = words::low_run(rest);
-        here = texts_run64(out, here, src, first, start, base + run.from, base + run.to);
-        rest = run.rest;
-    }
-    here
-}
-
-// The own bytes of the rows that entries i to j of a list name.
-pub fn texts_list64(
-    out: &mut [u8],
-    at: usize,
-    src: &[u8],
-    first: usize,
-    start: usize,
-    list: &[u32],
-    i: usize,
-    j: usize,
-) -> usize
-    requires { ⌜ (i ≤ j) × (j ≤ length (now list)) ⌝ }
-    requires { ⌜ Among (Texts 8 (now src) first start) (bytesAt (now list) i (j - i)) ⌝ }
-    requires { ⌜ at + length (textsOf (offset 8 (now src) first) (now src) start (bytesAt (now list) i (j - i))) ≤ length (now out) ⌝ }
-    ensures { λ r. ⌜ Wrote (now (out .entry)) at (textsOf (offset 8 (now (src .entry)) first) (now (src .entry)) start (bytesAt (now (list .entry)) i (j - i))) (now (out .exit)) r ⌝ }
-{
-    let mut here = at;
-    let mut k = i;
-    while k < j {
-        let row = list[k] as usize;
-        k += 1;
-        let low = words::get64(src, first + 8 * row) as usize;
-        let n = size64(src, first, row);
-        here = copies::copy_short(out, here, src, start + low, n);
-    }
-    here
 }
 
 // Where each of rows a to e ends, in 8 bytes, if the first starts at `sum`: each offset moved by the same distance, so no sum is carried.

@@ -6,9 +6,7 @@ use lib.ListN.{length, length-set}
 use Rattle.format.proofs.Put.{same-size}
 use Rattle.nesting.specs.Rows.{picksOf}
 use Rattle.nesting.proofs.Counted.{ready-at}
-use Rattle.nesting.proofs.Scratch.{child-inside}
-use Rattle.fill.proofs.Filling.{FilledTo, filled-none, filled-earlier, next-fits, filled-more, filled-same, filled-all}
-use Rattle.fill.proofs.Taking.{taking}
+use Rattle.fill.proofs.Filling.{FilledTo, takes, inside, filled-none, filled-earlier, next-fits, filled-more, filled-same, filled-all}
 use Rattle.fill.proofs.fill_all.Statement.{statement}
 use Rattle.fill.proofs.fill_all.Tie as tie
 
@@ -27,51 +25,42 @@ loop-holds c = (omega arith, refl, filled-none)
 add-i : tie.Need-add-i Inv-loop μ-loop
 add-i c = omega (arith, c .before .before .before .before .before .before .pre .1 .0 .sound .shape .few)
 
-mul-takes-scratch : tie.Need-mul-takes-scratch Inv-loop μ-loop
-mul-takes-scratch c = omega (arith, c .before .before .before .before .before .before .pre .1 .0 .sound .shape .few)
-
-mul-takes-scratch-2 : tie.Need-mul-takes-scratch-2 Inv-loop μ-loop
-mul-takes-scratch-2 c = omega (arith, c .before .before .before .before .before .before .pre .1 .0 .sound .shape .few)
-
-element-copy-out-takes-scratch : tie.Need-element-copy-out-takes-scratch Inv-loop μ-loop
-element-copy-out-takes-scratch c = omega (arith, c .before .before .before .before .before .before .pre .1 .0 .sound .shape .few)
-
-takes-scratch-requires : tie.Need-takes-scratch-requires Inv-loop μ-loop
-takes-scratch-requires c κs = tt
+takes-bitmap-requires : tie.Need-takes-bitmap-requires Inv-loop μ-loop
+takes-bitmap-requires c κs = let r = c .before .before .before .before .before .before .pre .1 .0 in (r .sound, r .tabled, omega arith)
 
 fill-next-requires : tie.Need-fill-next-requires Inv-loop μ-loop
 fill-next-requires c κs =
-    let q = c .before .before .before .before .before .before .before .before .before .before .before .pre in
-    let l = c .before .before .before .before .before .before .loop in
-    let asked = c .before .before .before .takes-scratch in
+    let q = c .before .before .before .before .before .before .before .before .before .before .pre in
+    let l = c .before .before .before .before .before .loop in
+    let asked = c .before .before .before .takes-bitmap in
     let first = c .before .before .if1 in
-    ((q .0, ready-at (q .1 .0) (omega arith)), (taking (q .1 .0 .sound) (q .1 .0 .tabled) (omega arith) (asked .ensures) (first .taken), (filled-earlier (q .1 .0 .sound) (omega arith) (l .inv .2), next-fits (q .1 .0 .sound) (q .1 .0 .tabled) (omega arith) (asked .ensures) (first .taken) (q .1 .1) (l .inv .2))))
+    ((q .0, ready-at (q .1 .0) (omega arith)), (record { sound = q .1 .0 .sound; tabled = q .1 .0 .tabled; inside = omega arith; takes = takes (q .1 .0 .sound) (omega arith) (asked .ensures) (first .taken) }, (filled-earlier (q .1 .0 .sound) (omega arith) (l .inv .2), next-fits (q .1 .0 .sound) (omega arith) (asked .ensures) (first .taken) (q .1 .1) (l .inv .2))))
 
 mul-places : tie.Need-mul-places Inv-loop μ-loop
-mul-places c = omega (arith, c .before .before .before .before .before .before .before .before .before .before .before .before .before .before .pre .1 .0 .sound .shape .few)
+mul-places c = omega (arith, c .before .before .before .before .before .before .before .before .before .before .before .before .before .pre .1 .0 .sound .shape .few)
 
 array-write-places : tie.Need-array-write-places Inv-loop μ-loop
 array-write-places c =
-    let q = c .before .before .before .before .before .before .before .before .before .before .before .before .before .before .pre in
-    omega (arith, child-inside (q .1 .0 .sound) (q .1 .0 .tabled) (omega arith) (c .before .before .before .before .before .before .takes-scratch .ensures) (c .before .before .before .before .before .if1 .taken), q .1 .0 .sound .shape .few)
+    let q = c .before .before .before .before .before .before .before .before .before .before .before .before .before .pre in
+    omega (arith, inside (q .1 .0 .sound) (omega arith) (c .before .before .before .before .before .before .takes-bitmap .ensures) (c .before .before .before .before .before .if1 .taken), q .1 .0 .sound .shape .few)
 
 loop-less : tie.Need-loop-less Inv-loop μ-loop
 loop-less c = omega arith
 
 loop-again : tie.Need-loop-again Inv-loop μ-loop
 loop-again c =
-    let q = c .before .before .before .before .before .before .before .before .before .before .before .before .before .before .pre in
-    let l = c .before .before .before .before .before .before .before .before .before .loop in
-    (omega arith, simp length-set (l .inv .1), filled-more (q .1 .0 .sound) (q .1 .0 .tabled) (omega arith) (c .before .before .before .before .before .before .takes-scratch .ensures) (c .before .before .before .before .before .if1 .taken) (q .1 .1) (l .inv .2) (l .inv .1) (c .before .before .fill-next .ensures))
+    let q = c .before .before .before .before .before .before .before .before .before .before .before .before .before .pre in
+    let l = c .before .before .before .before .before .before .before .before .loop in
+    (omega arith, simp length-set (l .inv .1), filled-more (q .1 .0 .sound) (omega arith) (c .before .before .before .before .before .before .takes-bitmap .ensures) (c .before .before .before .before .before .if1 .taken) (q .1 .1) (l .inv .2) (l .inv .1) (c .before .before .fill-next .ensures))
 
 loop-less-2 : tie.Need-loop-less-2 Inv-loop μ-loop
 loop-less-2 c = omega arith
 
 loop-again-2 : tie.Need-loop-again-2 Inv-loop μ-loop
 loop-again-2 c =
-    let q = c .before .before .before .before .before .before .before .before .before .pre in
-    let l = c .before .before .before .before .loop in
-    (omega arith, l .inv .1, filled-same (q .1 .0 .sound) (q .1 .0 .tabled) (omega arith) (c .before .takes-scratch .ensures) (c .if1 .left) (l .inv .2))
+    let q = c .before .before .before .before .before .before .before .before .pre in
+    let l = c .before .before .before .loop in
+    (omega arith, l .inv .1, filled-same (q .1 .0 .sound) (omega arith) (c .before .takes-bitmap .ensures) (c .if1 .left) (l .inv .2))
 
 same-length : tie.Need-same-length Inv-loop μ-loop
 same-length c = same-size (c .before .loop .inv .2 .wrote)
@@ -90,10 +79,7 @@ fill-all-spec =
     node-count-requires
     loop-holds
     add-i
-    mul-takes-scratch
-    mul-takes-scratch-2
-    element-copy-out-takes-scratch
-    takes-scratch-requires
+    takes-bitmap-requires
     fill-next-requires
     mul-places
     array-write-places

@@ -6,9 +6,10 @@ use native.Mathlib.Omega.{arith}
 use borrow.Author.Needs.{needs}
 use lib.ListN.{length}
 use Rattle.nesting.specs.Rows.{picksOf}
+use Rattle.nesting.proofs.Direct.{takes-not}
 use Rattle.nesting.proofs.Tree.{handed}
 use Rattle.fill.proofs.Taking.{taking-one, child-inside}
-use Rattle.fill.proofs.Reading.{nodes-of, top-long-few, at-top-root, root-sifted, above-few, takes-above, above-lies, above-picks, above-sifted}
+use Rattle.fill.proofs.Reading.{nodes-of, top-long-few, at-top-root, root-sifted, above-few, takes-above, bitmap-above, above-lies, above-picks, above-sifted}
 use Rattle.fill.proofs.fill_next.Statement.{statement}
 use Rattle.fill.proofs.fill_next.Tie as tie
 
@@ -83,7 +84,7 @@ fill-picked-requires-2 c κs =
     let climb = c .before .before .before .before .before .before .before .before .before .top-of in
     let top = climb .ensures in
     let some : 0 < climb .result = omega (arith, c .before .before .before .before .before .before .before .before .if1 .left) in
-    let takes = sym (takes-above n top some (c .before .before .before .before .before .takes-scratch .ensures)) ∙ c .before .before .before .before .if2 .taken in
+    let takes = bitmap-above n top some (sym (takes-above n top some (c .before .before .before .before .before .takes-scratch .ensures)) ∙ c .before .before .before .before .if2 .taken) (takes-not _ _ (q .1 .0 .takes)) in
     let fit : a .at ≤ length (a .scratch .now) = omega (arith, q .1 .1 .1) in
     rw (c .before .plain-bits .ensures) (
       above-lies n top some takes (q .1 .1 .0) fit,
@@ -101,7 +102,7 @@ returns-2 c =
     let climb = c .before .before .before .before .before .before .before .before .before .before .before .before .top-of in
     let top = climb .ensures in
     let some : 0 < climb .result = omega (arith, c .before .before .before .before .before .before .before .before .before .before .before .if1 .left) in
-    let takes = sym (takes-above n top some (c .before .before .before .before .before .before .before .before .takes-scratch .ensures)) ∙ c .before .before .before .before .before .before .before .if2 .taken in
+    let takes = bitmap-above n top some (sym (takes-above n top some (c .before .before .before .before .before .before .before .before .takes-scratch .ensures)) ∙ c .before .before .before .before .before .before .before .if2 .taken) (takes-not _ _ (q .1 .0 .takes)) in
     let fit : a .at ≤ length (a .scratch .now) = omega (arith, q .1 .1 .1) in
     rw (add-one (a .i), ← handed _ (a .i) (q .1 .0 .sound) (q .1 .0 .inside) (taking-one (q .1 .0)) (picksOf (a .mask .now) (a .bits)) (above-picks n top some takes (q .1 .1 .0) fit (q .0 .1 .rooted)))
     (rw (c .before .before .before .before .plain-bits .ensures) at (c .before .before .fill-picked2 .ensures))

@@ -1,4 +1,6 @@
 -- `nodes::second_texts32` meets its contract: the rows lie in the journal. Assumes nothing.
+use mathlib.Core.Logic.{inl}
+use mathlib.Core.Path.{refl}
 use borrow.Author.Needs.{needs}
 use Rattle.predicate.proofs.Holding.{sourced-readable}
 use Rattle.buffers.specs.Place.{rowsBy}
@@ -6,8 +8,8 @@ use Rattle.nodes.proofs.BufferLaws.{cells-32, second-texts-are, texts-l
 use Rattle.nodes.proofs.second_texts32.Statement.{statement}
 use Rattle.nodes.proofs.second_texts32.Tie as tie
 
-put-texts32-requires : tie.Need-put-texts32-requires
-put-texts32-requires c κs =
+put-texts-requires : tie.Need-put-texts-requires
+put-texts-requires c κs =
     let b = c .before .before .before .before .before .before .before in
     let a = b .args in
     let p = b .pre .0 in
@@ -15,7 +17,7 @@ put-texts32-requires c κs =
     let e = place-is p 4 _ (c .before .before .row-zero .ensures) in
     let is = cells-32 (a .journal .now) (a .i) (rowsBy (a .sel) (a .s .now) (a .mask)) (b .pre .1 .0) in (
       sourced-readable (a .sel) (a .s .now) (a .mask) (p .sourced),
-      (p .holds, (rw (e, second-is p) (texts-lie p 4 o), rw (e, second-is p, ← second-texts-are p 4 o is) (b .pre .1 .1))),
+      (p .holds, (rw (e, second-is p) (texts-lie p 4 (inl refl) o), rw (e, second-is p, ← second-texts-are p 4 (inl refl) o is) (b .pre .1 .1))),
     )
 
 returns : tie.Need-returns
@@ -26,7 +28,7 @@ returns c =
     let o = p .sound .offsets32 (a .i) (p .inside) (b .pre .1 .0) in
     let e = place-is p 4 _ (c .before .before .before .before .before .row-zero .ensures) in
     let is = cells-32 (a .journal .now) (a .i) (rowsBy (a .sel) (a .s .now) (a .mask)) (b .pre .1 .0) in
-    rw (second-texts-are p 4 o is, ← e, ← second-is p) (c .before .before .put-texts32 .ensures)
+    rw (second-texts-are p 4 (inl refl) o is, ← e, ← second-is p) (c .before .before .put-texts .ensures)
 
 pub second-texts32-spec : {M : Type 1} → statement M
-second-texts32-spec = tie.close (tie.spec (λ c κs. search needs) (λ c. search needs) put-texts32-requires (λ c. search needs) returns)
+second-texts32-spec = tie.close (tie.spec (λ c κs. search needs) (λ c. search needs) put-texts-requires (λ c. search needs) returns)

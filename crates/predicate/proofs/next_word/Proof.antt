@@ -1,12 +1,15 @@
 -- `predicate::next_word` meets its contract. The rows from `place` up to word w are not kept, and x is what is left of that word. Assumes nothing.
 use Prim.Native.Nat.{_+_, _*_, _-_, _/_, _%_, _≤_, _<_}
+use mathlib.Core.Logic.{⊎-elim}
 use mathlib.Core.Path.{_≡_, sym, _∙_}
 use native.Mathlib.Omega.{arith}
 use borrow.Author.Needs.{needs}
 use Rattle.format.specs.Slots.{wordFrom, after}
 use Rattle.format.proofs.WordLaws.{from-clear}
 use Rattle.slots.specs.Source.{slotOf}
-use Rattle.scan.proofs.Scan.{Scanned, starts, passed, fresh}
+use Rattle.scan.specs.Asked.{Blank}
+use Rattle.scan.proofs.Blanks.{blank-none}
+use Rattle.scan.proofs.Scan.{Scanned, starts, passed, skips, fresh}
 use Rattle.predicate.specs.Blocks.{Found}
 use Rattle.predicate.proofs.Picks.{picks-over}
 use Rattle.predicate.proofs.WordRuns.{worded-on}
@@ -25,23 +28,34 @@ loop-holds c =
     let at : 64 * (a .place / 64) + a .place % 64 ≡ a .place = omega arith in
     (omega arith, starts _ _, rw (c .word-in .ensures) (rw at at (from-clear (slotOf (a .s .now) (a .b)) 64 (64 * (a .place / 64)) (a .place % 64) (omega arith))))
 
--- nothing is left of word w
-over : (c : tie.In-loop Inv-loop μ-loop) →
-    let a = c .before .before .before .before .before .before .args in
-    Scanned (slotOf (a .s .now) (a .b)) (a .place) (c .before .loop .w + 1) (a .place) (a .place)
-over c = passed (c .before .loop .inv .1) (sym (c .before .loop .inv .2) ∙ c .loop-test .taken)
+-- no slot is picked in the words passed, one or more
+blank : (c : tie.Joined3 Inv-loop μ-loop) →
+    let a = c .before .before .before .before .before .before .before .args in
+    Blank (slotOf (a .s .now) (a .b)) (c .before .before .loop .w + 1) (a .b .len) (c .if3 .w)
+blank c = ⊎-elim (λ v. rw (v .2) (v .1 .ensures)) (λ v. rw (v .1) (blank-none _ _ _)) (c .if3 .came)
+
+-- nothing is left of word w, nor of the words passed after it
+over : (c : tie.Joined3 Inv-loop μ-loop) →
+    let a = c .before .before .before .before .before .before .before .args in
+    Scanned (slotOf (a .s .now) (a .b)) (a .place) (c .if3 .w) (a .place) (a .place)
+over c =
+    let k = c .before in
+    skips (passed (k .before .loop .inv .1) (sym (k .before .loop .inv .2) ∙ k .loop-test .taken)) (blank c)
+
+reached : (c : tie.Joined3 Inv-loop μ-loop) → c .before .before .before .before .before .before .before .args .place ≤ 64 * c .if3 .w
+reached c = omega (arith, c .before .before .loop .inv .1 .near, blank c .low)
 
 loop-again : tie.Need-loop-again Inv-loop μ-loop
 loop-again c =
-    let a = c .before .before .before .before .before .before .before .before .args in
-    let near = c .before .before .before .loop .inv .1 .near in
-    (omega arith, over (c .before .before), c .word-in2 .ensures ∙ fresh (slotOf (a .s .now) (a .b)) (a .place) 64 _ (omega arith))
+    let k = c .before .before .before in
+    let a = c .before .before .before .before .before .before .before .before .before .before .args in
+    (omega arith, over k, c .word-in2 .ensures ∙ fresh (slotOf (a .s .now) (a .b)) (a .place) 64 _ (reached k))
 
 returns-3 : tie.Need-returns-3 Inv-loop μ-loop
 returns-3 c =
-    let k = c .before .before in
-    let near = k .before .loop .inv .1 .near in
-    worded-on (omega arith) (omega arith) (over k .gap) (c .last-block2 .result) (c .last-block2 .ensures)
+    let k = c .before .before .before in
+    let high = blank k .high in
+    worded-on (reached k) (omega arith) (over k .gap) (c .last-block2 .result) (c .last-block2 .ensures)
 
 -- the word has some row
 found : (c : tie.After-loop Inv-loop μ-loop) →
@@ -68,12 +82,15 @@ next-word-spec =
     loop-holds
     (λ c. omega arith)
     (λ c. omega arith)
-    (λ c. omega arith)
-    (λ c. omega arith)
     (λ c κs. (c .before .before .before .before .before .before .before .pre, omega arith))
+    (λ c. omega arith)
+    (λ c. let high = blank (c .before) .high in omega arith)
+    (λ c. let high = blank (c .before) .high in omega arith)
+    (λ c. let high = blank (c .before .before) .high in omega arith)
+    (λ c κs. (c .before .before .before .before .before .before .before .before .before .pre, omega (arith, blank (c .before .before) .high)))
     returns-3
-    (λ c κs. (c .before .before .before .before .before .before .before .pre, omega arith))
-    (λ c. omega arith)
+    (λ c κs. (c .before .before .before .before .before .before .before .before .before .pre, omega arith))
+    (λ c. let low = blank (c .before .before .before) .low in omega arith)
     loop-again
     (λ c κs. (c .before .before .before .before .before .before .pre, (c .before .loop .inv .0, found c)))
     (λ c. c .word-block .ensures))

@@ -24,7 +24,7 @@ element-copy-out-takes-scratch-2 : tie.Need-element-copy-out-takes-scratch-2
 element-copy-out-takes-scratch-2 c = omega (arith, parent-low (c .before .before .before .before .before .before .before .before .pre .0) (c .before .before .before .top-of .ensures) (omega (arith, c .before .before .if1 .left)))
 
 returns-2 : tie.Need-returns-2
-returns-2 c = rw (c .plain-bits .ensures) (told-runs (c .before .before .before .before .before .before .before .before .before .before .before .before .before .pre .0) (c .before .before .before .before .before .before .before .before .top-of .ensures) (omega (arith, c .before .before .before .before .before .before .before .if1 .left)) (c .before .before .before .takes-scratch .ensures) (c .before .before .if2 .taken))
+returns-2 c = rw (c .plain-bits .ensures) (told-runs (c .before .before .before .before .before .before .before .before .before .before .before .before .before .pre .0) (c .before .before .before .before .before .before .before .before .top-of .ensures) (omega (arith, c .before .before .before .before .before .before .before .if1 .left)) (c .before .before .before .before .before .before .before .before .before .before .before .before .before .pre .1 .1) (c .before .before .before .takes-scratch .ensures) (c .before .before .if2 .taken))
 
 returns-3 : tie.Need-returns-3
 returns-3 c = rw (c .plain-bits2 .ensures, c .before .carried .ensures) (told-carried (c .before .before .before .before .before .before .before .before .before .before .before .before .before .before .pre .0) (c .before .before .before .before .before .before .before .before .before .top-of .ensures) (omega (arith, c .before .before .before .before .before .before .before .before .if1 .left)) (c .before .before .before .before .takes-scratch .ensures) (c .before .before .before .if2 .left))

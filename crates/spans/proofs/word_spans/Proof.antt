@@ -6,7 +6,7 @@ use borrow.Author.Needs.{needs}
 use Rattle.format.specs.Rows.{setRows}
 use Rattle.format.proofs.RowLaws.{set-none}
 use Rattle.spans.specs.Spans.{offsetFrom, spans, Rising}
-use Rattle.spans.proofs.Spanned.{spans-none, run-small, run-lies, start-lies, rising-rest, run-rises, run-spans}
+use Rattle.spans.proofs.Spanned.{spans-none, run-small, run-lies, start-lies, rising-rest, read-rises, read-spans}
 use Rattle.spans.proofs.word_spans.Statement.{statement}
 use Rattle.spans.proofs.word_spans.Tie as tie
 
@@ -46,12 +46,12 @@ number-requires-2 : tie.Need-number-requires-2 Inv-loop μ-loop
 number-requires-2 c κs = let t = c .before .before .before in (t .before .before .before .before .pre .0, run-lies (t .low-run .ensures) _ (t .before .before .loop .inv .0))
 
 sub-n : tie.Need-sub-n Inv-loop μ-loop
-sub-n c = let t = c .before .before .before .before in run-rises (t .low-run .ensures) _ (t .before .before .loop .inv .0) (c .number2 .ensures) (c .before .before .number .ensures)
+sub-n c = let t = c .before .before .before .before in read-rises (t .low-run .ensures) _ (t .before .before .loop .inv .0) (c .number2 .ensures) (c .before .before .number .ensures)
 
 add-n : tie.Need-add-n Inv-loop μ-loop
 add-n c =
     let t = c .before .before .before .before in
-    record { fits = omega (arith, run-spans (t .low-run .ensures) _ (t .before .before .loop .inv .0) (c .number2 .ensures) (c .before .before .number .ensures), t .before .before .loop .inv .1, t .before .before .before .before .pre .1 .1) }
+    record { fits = omega (arith, read-spans (t .low-run .ensures) _ (t .before .before .loop .inv .0) (c .number2 .ensures) (c .before .before .number .ensures), t .before .before .loop .inv .1, t .before .before .before .before .pre .1 .1) }
 
 loop-less : tie.Need-loop-less Inv-loop μ-loop
 loop-less c = c .before .before .before .before .low-run .ensures .less
@@ -60,7 +60,7 @@ loop-again : tie.Need-loop-again Inv-loop μ-loop
 loop-again c =
     let t = c .before .before .before .before in
     let l = t .before .before .loop .inv in
-    (rising-rest (t .low-run .ensures) _ (t .before .before .loop .inv .0), omega (arith, run-spans (t .low-run .ensures) _ (t .before .before .loop .inv .0) (c .number2 .ensures) (c .before .before .number .ensures), l .1))
+    (rising-rest (t .low-run .ensures) _ (t .before .before .loop .inv .0), omega (arith, read-spans (t .low-run .ensures) _ (t .before .before .loop .inv .0) (c .number2 .ensures) (c .before .before .number .ensures), l .1))
 
 returns : tie.Need-returns Inv-loop μ-loop
 returns c =

@@ -92,14 +92,14 @@ word-spans-requires c κs =
     let pre = c .before .before .before .before .before .before .before .before .pre .1 in
     let m = 64 * c .before .before .before .loop .i in
     let laid = text-laid (pre .0) (pre .1 .0) (pre .1 .2) (pre .1 .3) in
-    (pre .1 .1, (rising-word laid (λ j h. slot-past _ _ j h) m (is-word (c .before)), word-small laid (λ j h. slot-past _ _ j h) m (is-word (c .before))))
+    (pre .1 .1, (rising-word laid (λ j h. slot-past _ _ j h) m (is-word (c .before)), word-small (laid .mounts) (λ j h. slot-past _ _ j h) m (is-word (c .before))))
 
 add-n : tie.Need-add-n Inv-loop μ-loop
 add-n c =
     let pre = c .before .before .before .before .before .before .before .before .before .pre .1 in
     let laid = text-laid (pre .0) (pre .1 .0) (pre .1 .2) (pre .1 .3) in
     record {
-      fits = word-fits laid (λ j h. slot-past _ _ j h) (64 * c .before .before .before .before .loop .i) (is-word (c .before .before)) (c .before .before .before .before .loop .inv .1) (c .word-spans .ensures);
+      fits = word-fits (laid .mounts) (λ j h. slot-past _ _ j h) (64 * c .before .before .before .before .loop .i) (is-word (c .before .before)) (c .before .before .before .before .loop .inv .1) (c .word-spans .ensures);
     }
 
 loop-less : tie.Need-loop-less Inv-loop μ-loop
@@ -109,7 +109,7 @@ loop-again : tie.Need-loop-again Inv-loop μ-loop
 loop-again c =
     let pre = c .before .before .before .before .before .before .before .before .before .pre .1 in
     let laid = text-laid (pre .0) (pre .1 .0) (pre .1 .2) (pre .1 .3) in
-    (omega arith, word-more laid (λ j h. slot-past _ _ j h) (64 * c .before .before .before .before .loop .i) (is-word (c .before .before)) (c .before .before .before .before .loop .inv .1) (c .word-spans .ensures) _ (omega arith))
+    (omega arith, word-more (laid .mounts) (λ j h. slot-past _ _ j h) (64 * c .before .before .before .before .loop .i) (is-word (c .before .before)) (c .before .before .before .before .loop .inv .1) (c .word-spans .ensures) _ (omega arith))
 
 loop-less-2 : tie.Need-loop-less-2 Inv-loop μ-loop
 loop-less-2 c = omega arith
@@ -119,7 +119,7 @@ loop-again-2 : tie.Need-loop-again-2 Inv-loop μ-loop
 loop-again-2 c =
     let pre = c .before .before .before .before .before .before .before .before .pre .1 in
     let laid = text-laid (pre .0) (pre .1 .0) (pre .1 .2) (pre .1 .3) in
-    (omega arith, word-none laid (λ j h. slot-past _ _ j h) (64 * c .before .before .before .loop .i) (is-word (c .before)) (c .if2 .left) (c .before .before .before .loop .inv .1) _ (omega arith))
+    (omega arith, word-none (laid .mounts) (λ j h. slot-past _ _ j h) (64 * c .before .before .before .loop .i) (is-word (c .before)) (c .if2 .left) (c .before .before .before .loop .inv .1) _ (omega arith))
 
 returns : tie.Need-returns Inv-loop μ-loop
 returns c =

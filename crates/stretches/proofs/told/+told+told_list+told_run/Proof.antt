@@ -14,9 +14,10 @@ use Rattle.nesting.proofs.Counted.{ready-at}
 use Rattle.nesting.proofs.RunEdges.{few, skip-few}
 use Rattle.nesting.proofs.ListAt.{child-rows}
 use Rattle.nesting.proofs.Runs.{rowsFrom, rowsTo}
+use Rattle.nesting.proofs.Sieve.{node-few, len-fits}
 use Rattle.stretches.specs.Stretches.{Seen}
 use Rattle.stretches.proofs.Minding.{seen-told, seen-noted}
-use Rattle.stretches.proofs.Telling.{closer, node-few, len-fits, in-len, up, up-few, up-inside, up-ready, by-shared, shared-row, shared-told, runs-at, runs-next, list-at, list-next, nested32, nested64, next-told, carried-told, root-told, run-hit, run-miss, run-lo, run-hi, rows-fit, run-noted, list-room, kid-fits, list-noted, missed-more, gap-told, dropped-told, valid-told}
+use Rattle.stretches.proofs.Telling.{closer, in-len, up, up-few, up-inside, up-ready, by-shared, shared-row, shared-told, runs-at, runs-next, list-at, list-next, nested32, nested64, next-told, carried-told, root-told, run-hit, run-miss, run-lo, run-hi, rows-fit, run-noted, list-room, kid-fits, list-noted, missed-more, gap-told, dropped-told, valid-told}
 use Prim.Native.Nat.{ℕ, _<_}
 use borrow.Fn.Kinds.{In}
 use borrow.Fn.PlainCycle.{Measures, is, falls, and}

@@ -1,0 +1,2 @@
+-- Laws of how many rows a node keeps.
+pub mod Counting

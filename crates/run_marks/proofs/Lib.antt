@@ -1,0 +1,3 @@
+-- Laws of bitmaps of runs.
+mod Packing
+mod RunBits

@@ -1,0 +1,2 @@
+-- Laws of bitmaps marked stretch by stretch.
+mod Stretching
