@@ -9,7 +9,8 @@
 //! whole       the whole call of the port on the packs' bytes: check, measure, write; no list stored
 //! check, prepare, rest  its parts: the journal's verdict alone; the mask checked and counted alone; what is left of the whole
 //! memcpy      as many bytes as the extract has, copied
-//! ratio       whole / (validation + filter), for lists whole / (validation + plain)
+//! both        validation + filter; for lists validation and plain in one call, one after the other
+//! ratio       whole / both
 mod columns;
 mod plain;
 mod validate;
@@ -79,11 +80,17 @@ struct Room {
     output: Vec<u8>,
 }
 
+/// Times of plain Rust: alone, and behind the validation in one call, where what is kept is farther away in the caches.
+struct Plain {
+    alone: f64,
+    behind_validation: f64,
+}
+
 /// Times of one column under one mask, in ns for each row.
 struct Cell {
     filter: f64,
     /// for lists
-    plain: Option<f64>,
+    plain: Option<Plain>,
     whole: f64,
     prepare: f64,
     memcpy: f64,
@@ -103,7 +110,7 @@ struct Timed {
 impl Timed {
     /// What the port's time is held to.
     fn both(&self, cell: &Cell) -> f64 {
-        self.validation + cell.plain.unwrap_or(cell.filter)
+        cell.plain.as_ref().map_or(self.validation + cell.filter, |plain| plain.behind_validation)
     }
     fn ratio(&self, cell: &Cell) -> f64 {
         cell.whole / self.both(cell)
@@ -119,17 +126,26 @@ fn time_cell(room: &mut Room, mask: &[u8], journal: &[u8], rows: usize) -> Cell 
         let lent = Lent { list: &mut [], scratch: &mut room.scratch, output: &mut room.output };
         assert_eq!(entry::filter(black_box(mask), black_box(journal), None, false, lent, &mut answer), 0);
     });
-    let plain = Lists::of(&Pack::read(journal).unwrap()).map(|lists| {
+    let row = |ns: f64| ns / rows as f64;
+    let pack = Pack::read(journal).unwrap();
+    let plain = Lists::of(&pack).map(|lists| {
         let words = plain::words(&Pack::read(mask).unwrap());
         let extract = Lists::of(&Pack::read(&room.output[..answer[3] as usize]).unwrap());
         assert!(extract == Some(lists.filter(&words)), "plain Rust and the port differ");
-        least(|| drop(black_box(black_box(&lists).filter(black_box(&words)))))
+        let filter = || drop(black_box(black_box(&lists).filter(black_box(&words))));
+        let behind = |valid: fn(&Pack) -> bool| {
+            least(|| {
+                assert!(valid(black_box(&pack)));
+                filter()
+            })
+        };
+        let behind_validation = behind(validate::<Early>).min(behind(validate::<Folded>));
+        Plain { alone: row(least(filter)), behind_validation: row(behind_validation) }
     });
     let bytes = (answer[3] as usize).min(journal.len());
     let prepare = least(|| assert_eq!(entry::prepare(black_box(mask), None, false, &mut [], &mut answer), 0));
     let memcpy = least(|| black_box(&mut room.output[..bytes]).copy_from_slice(black_box(&journal[..bytes])));
-    let row = |ns: f64| ns / rows as f64;
-    Cell { filter: row(filter), plain: plain.map(row), whole: row(whole), prepare: row(prepare), memcpy: row(memcpy) }
+    Cell { filter: row(filter), plain, whole: row(whole), prepare: row(prepare), memcpy: row(memcpy) }
 }
 
 fn time_column(room: &mut Room, (name, rows, make): Column) -> Timed {
@@ -176,7 +192,7 @@ fn percent(density: usize) -> String {
 fn print_all(markdown: bool, columns: &[Timed]) {
     let title = |text: String| if markdown { println!("### {text}\n") } else { println!("{text}") };
     for (i, masks) in MASKS.iter().enumerate() {
-        title(format!("whole / (validation + filter), for lists whole / (validation + plain), {masks} masks"));
+        title(format!("whole / (validation + filter), for lists whole / (validation and plain in one call), {masks} masks"));
         let head = std::iter::once("column".into()).chain(DENSITIES.map(percent)).collect();
         let row =
             |c: &Timed| std::iter::once(c.name.into()).chain(c.cells[i].iter().map(|x| format!("{:.2}", c.ratio(x)))).collect();
@@ -195,7 +211,7 @@ fn print_all(markdown: bool, columns: &[Timed]) {
             for (density, x) in DENSITIES.iter().zip(cells) {
                 let rest = x.whole - c.check - x.prepare;
                 let mut times = vec![x.filter];
-                times.extend(x.plain);
+                times.extend(x.plain.as_ref().map(|plain| plain.alone));
                 times.extend([c.validation, c.both(x), c.check, x.prepare, rest, x.whole, x.memcpy]);
                 let mut row = vec![format!("{masks} {}", percent(*density))];
                 row.extend(times.iter().map(|ns| format!("{ns:.3}")));
