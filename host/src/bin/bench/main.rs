@@ -80,7 +80,7 @@ struct Room {
     output: Vec<u8>,
 }
 
-/// Times of plain Rust: alone, and behind the validation in one call, where what is kept is farther away in the caches.
+/// Times of plain Rust: alone, and behind the validation in one call, which takes more than the two timed apart.
 struct Plain {
     alone: f64,
     behind_validation: f64,
