@@ -134,9 +134,10 @@ def kinds():
         done(name, "TTFFT", "rows 3 of 5 route indices",
              pack().texts([b"one", Null(b"lost"), b"", b"three", b"four"], [b"skipped", None], kind),
              Pack().texts([b"one", Null(b"lost"), b"four"], kind=kind))
+    # the row passed over is no view
     long, longer = b"thirteen byte", b"a text of twenty-one."
     done("kind-6-views", "TTFT", "rows 3 of 4 route indices",
-         pack().views(2, [view(b"short"), view(long, 1, 2), view(b"gone"), Null(view(longer, 0, 0))], [view(b"twelve bytes")])
+         pack().views(2, [view(b"short"), view(long, 1, 2), view(b"gone"), Null(view(longer, 0, 0))], [b"\xFF" * 16])
          .native(1, longer).native(1, b"__" + long + b"__", b"skip"),
          Pack().views(2, [view(b"short"), view(long, 1, 2), Null(view(longer, 0, 0))])
          .native(1, longer).native(1, b"__" + long + b"__"))
@@ -535,6 +536,25 @@ def list_slips():
     refused("14-lists64-120-into-119", "14 journal", mask("FT"), pack().lists([5, 4], kind=14).native(1, range(1, 10)), output=16 + 8 + 2 * 40 + 16 - 1)
 
 
+def view_slips():
+    title("refusal slips: views, whether or not the mask picks them")
+    text = b"a text of twenty-one."
+    right = view(text[2:], 0, 2)
+    for case, row in (
+        ("prefix-of-the-buffer-s-start", right[:4] + text[:4] + right[8:]),
+        ("prefix-untrue-in-its-last-byte", right[:7] + b"?" + right[8:]),
+        ("prefix-untrue-in-a-null-row", Null(right[:4] + b"?" + right[5:])),
+        ("unused-byte-in-the-prefix-s-place", view(b"two")[:7] + b"?" + bytes(8)),
+        ("last-unused-byte", view(b"eleven byte")[:15] + b"?"),
+        ("last-unused-byte-in-a-null-row", Null(view(b"")[:15] + b"?")),
+    ):
+        for picked, slots in (("picked", "TT"), ("dropped", "TF")):
+            refused(f"8-views-{case}-{picked}", "8 journal", mask(slots), pack().views(1, [right, row]).native(1, text), output=200)
+    # with 0 kids every view is short
+    done("views-of-0-to-12-bytes", "TFT", "rows 2 of 3 route indices",
+         pack().views(0, [view(b""), view(b"eleven byte"), view(b"twelve bytes")]), Pack().views(0, [view(b""), view(b"twelve bytes")]))
+
+
 def order():
     title("refusal slips: edges and order")
     good = mask("TFFTF")
@@ -554,7 +574,7 @@ def order():
 
 def main():
     folder = sys.argv[1] if len(sys.argv) > 1 else os.path.join(os.path.dirname(os.path.abspath(__file__)), "..", "crates", "cases")
-    for group in (bench, length_128, kinds, kinds_by_routes, widths, nesting, under_runs, lists, nested_lists, masks, limits, slips, list_slips, order):
+    for group in (bench, length_128, kinds, kinds_by_routes, widths, nesting, under_runs, lists, nested_lists, masks, limits, slips, list_slips, view_slips, order):
         group()
     for name, lines in (("stdin", given), ("stdout", expected)):
         text = "".join(line + "\n" for line in lines)

@@ -66,13 +66,17 @@ class Node:
         return low
 
     def view(self, place):
-        size, _, buffer, offset = struct.unpack("<4I", self.bytes(self.first + 16 * place, 16))
+        whole = self.bytes(self.first + 16 * place, 16)
+        size, _, buffer, offset = struct.unpack("<4I", whole)
         if size <= 12:
-            return self.bytes(self.first + 16 * place + 4, size)
+            need(not any(whole[4 + size:]), "a short view's unused bytes are not zero")
+            return whole[4 : 4 + size]
         need(buffer < len(self.kids), "a view's data buffer is missing")
         data = self.kids[buffer]
         need(offset + size <= data.rows, "a view leaves its data buffer")
-        return data.bytes(data.first + data.skip + offset, size)
+        found = data.bytes(data.first + data.skip + offset, size)
+        need(found[:4] == whole[4:8], "a view's prefix is not that of its data")
+        return found
 
     def between(self, place, size):
         """The two offsets of a place; `size` is how much they may reach into."""

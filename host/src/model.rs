@@ -156,11 +156,19 @@ fn content_fits(pack: &Pack, i: usize) -> bool {
         VIEWS => places.all(|p| {
             let view = |field: usize| signed(pack.body, n.first + 4 * field as u32, 4, 4 * p);
             let (length, buffer, offset) = (view(0), view(2), view(3));
+            let bytes = &pack.body[n.first as usize + 16 * p..][..16];
             let known = (0..children.len() as i128).contains(&buffer);
             match length {
                 ..0 => false,
-                0..=12 => true,
-                _ => known && offset >= 0 && offset + length <= child_rows(buffer as usize),
+                // what the bytes leave unused is zero
+                0..=12 => bytes[4 + length as usize..].iter().all(|byte| *byte == 0),
+                _ if !known || offset < 0 || offset + length > child_rows(buffer as usize) => false,
+                // the prefix is true
+                _ => {
+                    let data = &pack.nodes[children[buffer as usize]];
+                    let start = data.first as usize + data.skip as usize + offset as usize;
+                    bytes[4..8] == pack.body[start..start + 4]
+                }
             }
         }),
         LIST_VIEW | LARGE_LIST_VIEW => places.all(|p| {

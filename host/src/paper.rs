@@ -249,6 +249,55 @@ pub fn lists() -> Vec<Case> {
     ]
 }
 
+/// Views of one data buffer, the first `skip` passed over; where `null`, all are.
+fn views(skip: usize, null: bool, rows: &[[u32; 4]], data: &[u8]) -> Vec<u8> {
+    let mut body = numbers(&rows.concat());
+    let at = body.len();
+    body.extend(data);
+    let validity = if null { body.len() as u32 } else { NO_BITMAP };
+    body.push(0);
+    let parent = Node { skip: skip as u32, validity, ..node(VIEWS, 0, rows.len() - skip, 1, 0) };
+    finish(body, &[parent, node(NATIVE, 1, data.len(), 0, at)])
+}
+
+/// Kind 6: prefixes and unused bytes, worked out by hand from the rules.
+pub fn true_views() -> Vec<Case> {
+    let case = |name, slots, journal, line| Case::new(name, mask(slots), journal, line);
+    // bytes 3 to 18: from the second on, four are 4 to 7
+    let data: Vec<u8> = (3..19).collect();
+    let (long, prefix) = (14, 0x0706_0504);
+    let right = [long, prefix, 0, 1];
+    // the bytes 1, 2 and 3
+    let short = [3, 0x0003_0201, 0, 0];
+    let one = |name, row: [u32; 4], line| case(name, "T", views(0, false, &[row], &data), line);
+    vec![
+        case(
+            "views: long and short",
+            "TFT",
+            views(0, false, &[right, right, short], &data),
+            "rows 2 of 3 route indices bytes 144",
+        )
+        .with(0, &numbers(&[right, short].concat())),
+        one("views: 12 bytes and none unused", [12, u32::MAX, u32::MAX, u32::MAX], "rows 1 of 1 route all bytes 128"),
+        one("views: 11 bytes and one zero", [11, u32::MAX, u32::MAX, 0x00FF_FFFF], "rows 1 of 1 route all bytes 128"),
+        case(
+            "views: passed over, and no views",
+            "T",
+            views(1, false, &[[u32::MAX; 4], right], &data),
+            "rows 1 of 1 route all bytes 128",
+        )
+        .with(0, &numbers(&right)),
+        one("views: the prefix's first byte", [long, prefix - 1, 0, 1], "refused 8 journal"),
+        one("views: the prefix's last byte", [long, prefix + (1 << 24), 0, 1], "refused 8 journal"),
+        one("views: the prefix of the buffer's start", [long, 0x0605_0403, 0, 1], "refused 8 journal"),
+        one("views: an unused byte in the prefix's place", [3, 0x0103_0201, 0, 0], "refused 8 journal"),
+        one("views: the last unused byte of 11", [11, u32::MAX, u32::MAX, u32::MAX], "refused 8 journal"),
+        case("views: a null row's prefix", "T", views(0, true, &[[long, 0, 0, 1]], &data), "refused 8 journal"),
+        case("views: a null row's unused byte", "T", views(0, true, &[[0, 0, 0, 1 << 24]], &data), "refused 8 journal"),
+        case("views: a dropped row's prefix", "FT", views(0, false, &[[long, 0, 0, 1], short], &data), "refused 8 journal"),
+    ]
+}
+
 /// A struct whose extract by one more `data` byte passes a multiple of 8: 31 fixed children over one buffer, and bytes.
 fn large(data: usize) -> Vec<u8> {
     let (rows, width) = (512, 1024);

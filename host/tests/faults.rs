@@ -356,6 +356,49 @@ fn counts_no_scratch_for_lists() {
     });
 }
 
+/// The call on a journal whose content is refused, with its views changed.
+fn with_views(call: &Call, change: impl Fn(&Pack, usize, &mut [u8])) -> Return {
+    let mut journal = call.journal.to_vec();
+    if model::check(call.journal) == 8 {
+        let pack = Pack::read(call.journal).unwrap();
+        for i in (0..pack.nodes.len()).filter(|i| pack.nodes[*i].kind == VIEWS) {
+            let n = &pack.nodes[i];
+            journal[n.first as usize..][..16 * n.span()].chunks_mut(16).for_each(|view| change(&pack, i, view));
+        }
+    }
+    model::filter(&Call { journal: &journal, ..*call })
+}
+
+/// A view's length, and the bytes that a long one has.
+fn long_view<'a>(pack: &Pack<'a>, i: usize, view: &[u8]) -> (usize, Option<&'a [u8]>) {
+    let field = |k: usize| number(view, 4 * k, 4) as usize;
+    let data = pack.children(i).get(field(2)).map(|kid| &pack.nodes[*kid]);
+    let bytes = data.map(|n| &pack.body[(n.first + n.skip) as usize..][..n.rows as usize]);
+    (field(0), bytes.and_then(|bytes| bytes.get(field(3)..)?.get(..field(0))))
+}
+
+#[test]
+fn trusts_the_prefix_of_a_view() {
+    is_noticed(|call| {
+        with_views(call, |pack, i, view| {
+            if let (13.., Some(data)) = long_view(pack, i, view) {
+                view[4..8].copy_from_slice(&data[..4]);
+            }
+        })
+    });
+}
+
+#[test]
+fn looks_at_no_unused_byte_of_a_view() {
+    is_noticed(|call| {
+        with_views(call, |pack, i, view| {
+            if let (length @ ..13, _) = long_view(pack, i, view) {
+                view[4 + length..].fill(0);
+            }
+        })
+    });
+}
+
 /// The model, with its verdict on journals replaced.
 struct Lax<F: Fn(&[u8]) -> u64>(F);
 

@@ -3,8 +3,8 @@ use host::port::Model;
 use host::{compare, make, paper};
 
 #[test]
-fn bench_cases_refusals_and_lists() {
-    for case in paper::bench().iter().chain(&paper::refusals()).chain(&paper::lists()) {
+fn bench_cases_refusals_lists_and_views() {
+    for case in paper::bench().iter().chain(&paper::refusals()).chain(&paper::lists()).chain(&paper::true_views()) {
         compare::paper_case(&Model, case).unwrap_or_else(|why| panic!("{}: {why}", case.name));
     }
 }

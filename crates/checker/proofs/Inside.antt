@@ -1,26 +1,26 @@
 -- Refusal 8 on a node that was read: its buffers can be read, and the kernels' answers are the definition's. Assumes nothing.
 use Prim.Native.Nat.{ℕ, zero, suc, _+_, _-_, _*_, _/_, _^_, _≤_, _<_}
-use mathlib.Core.Bool.{Bool, true, false, _&&_, false≢true}
+use mathlib.Core.Bool.{Bool, true, false, false≢true}
 use mathlib.Core.List.{List, [], _∷_}
 use mathlib.Core.Path.{_≡_, refl, sym, ap, _∙_}
 use native.Mathlib.Nat.{mul-add}
 use native.Mathlib.Omega.{arith}
-use borrow.Author.Tests.{not-false, eq-eqb, ne-eqb}
-use lib.Dec.{ltb}
+use borrow.Author.Tests.{eq-eqb, ne-eqb}
 use lib.ListN.{length}
 use Rattle.format.specs.declared.Kind.{Kind}
 use Rattle.format.specs.declared.Kind.the-variants.{Bytes32, Bytes64, Views, Lists32, Lists64, Runs, Union, Dictionary, Nested32, Nested64}
 use Rattle.format.specs.Bytes.{anyBelow, bytesFor}
-use Rattle.format.specs.Node.{tableStart, nodeCount, noBitmap, kindOf, kind, param, rows, kids, secondLength, places, hasNoBitmap, child, Ancestor, ancestor, closed, oneLess, ancestors}
-use Rattle.format.specs.Verdict.{oneOf, firstSize, secondSize, badContent, empty, notClosed, wrongTree}
-use Rattle.content.specs.Numbers.{badOffsetsAt, badRangeAt, badKey, badValidKey, badRunsAt, badViewAt, Lengths}
-use Rattle.format.proofs.Accepted.{or-left, or-right}
-use Rattle.content.proofs.Nodes.{offsets-at, lists-at, runs-at, ids-at, keys-at, valid-keys-at, views-at}
+use Rattle.format.specs.Node.{tableStart, nodeCount, noBitmap, kindOf, kind, param, rows, skip, kids, firstAt, secondLength, places, hasNoBitmap, child, dataBuffer, Ancestor, ancestor, closed, oneLess, ancestors}
+use Rattle.format.specs.Verdict.{oneOf, firstSize, secondSize, badContent, empty, wrongTree}
+use Rattle.content.specs.Numbers.{badOffsetsAt, badRangeAt, badKey, badValidKey, badRunsAt, badViewAt, DataBuffers}
+use Rattle.format.specs.Accepted.{DataBuffer}
+use Rattle.format.proofs.Accepted.{params-right, places-few, bitmap-inside, first-inside, second-inside, tree-ends, data-buffers}
+use Rattle.content.proofs.Nodes.{offsets-at, lists-at, runs-at, ids-at, keys-at, valid-keys-at, views-at, data-rows, data-skip, data-first}
 use Rattle.pack.specs.declared.Node.{Node}
 use Rattle.pack.specs.Read.{nodeOf}
 use Rattle.checker.specs.Laid.{Laid}
 use Rattle.checker.proofs.Fits.{kind-read}
-use Rattle.checker.proofs.Passed.{param-passed, rows-passed, bitmap-passed, first-passed, second-passed}
+use Rattle.checker.proofs.Sizes.{few-rows}
 
 -- the children still to come of all open nodes: each node brings its own and takes one away, and at the end none is left
 total : List Ancestor → ℕ
@@ -55,14 +55,10 @@ module _ (b : List ℕ) where
   total-empty [] e = refl
   total-empty (a ∷ s) e = absurd (false≢true e)
 
-  tree-ends : wrongTree b ≡ false → empty (ancestors b (nodeCount b)) ≡ true
-  unfolding wrongTree notClosed
-  tree-ends e = not-false _ (or-right (anyBelow (λ i. ltb 0 i && empty (ancestors b i)) (nodeCount b)) _ (or-left _ _ (or-left _ _ e)))
-
   pub kids-inside : wrongTree b ≡ false → (i : ℕ) → i < nodeCount b → i + kids b i < nodeCount b
   kids-inside e i l =
       let q : suc i + (nodeCount b - suc i) ≡ nodeCount b = omega arith in
-      let z : total (ancestors b (suc i + (nodeCount b - suc i))) ≡ 0 = rw q (total-empty (ancestors b (nodeCount b)) (tree-ends e)) in
+      let z : total (ancestors b (suc i + (nodeCount b - suc i))) ≡ 0 = rw q (total-empty (ancestors b (nodeCount b)) (tree-ends b e)) in
       omega (arith, total-on (nodeCount b - suc i) (suc i), total-step i)
 
 -- a node that was read, with its kind and its child's rows
@@ -82,15 +78,14 @@ module _ {b : List ℕ} {i : ℕ} {n : Node} {k : Kind} {m : ℕ} (l : Looked b 
 
   first-in : {K : Kind} → k ≡ K → n .«first_at» + firstSize K (n .param) (n .skip + n .rows) m ≤ length b
   unfolding places
-  first-in e = rw (l .read, l .under, ← kind-is e) (omega (arith, table-inside, first-passed b i (l .inside) (l .laid .buffers)))
+  first-in e = rw (l .read, l .under, ← kind-is e) (omega (arith, table-inside, first-inside b i (l .inside) (l .laid .buffers)))
 
   second-in : {K : Kind} → k ≡ K → n .«second_at» + secondSize K (n .skip + n .rows) (n .«second_length») ≤ length b
   unfolding places
-  second-in e = rw (l .read, ← kind-is e) (omega (arith, table-inside, second-passed b i (l .inside) (l .laid .buffers)))
+  second-in e = rw (l .read, ← kind-is e) (omega (arith, table-inside, second-inside b i (l .inside) (l .laid .buffers)))
 
-  pub places-few : n .skip + n .rows ≤ 1_048_576
-  unfolding places
-  places-few = rw (l .read) (rows-passed b i (l .inside) (l .laid .rowed))
+  pub read-few : n .skip + n .rows ≤ 1_048_576
+  read-few = few-rows b i (l .inside) n (l .read) (l .laid .rowed)
 
   -- where each kind's numbers stand
   pub offsets32-in : k ≡ Bytes32 → n .«first_at» + 4 * n .skip + 4 * n .rows + 4 ≤ length b
@@ -114,11 +109,31 @@ module _ {b : List ℕ} {i : ℕ} {n : Node} {k : Kind} {m : ℕ} (l : Looked b 
   pub ids-in : k ≡ Union → n .«first_at» + n .skip + n .rows ≤ length b
   ids-in e = omega (arith, first-in e)
 
-  pub views-in : k ≡ Views → (t : ℕ) → t ≡ tableStart b → (n .«first_at» + 16 * n .skip + 16 * n .rows ≤ length b) × Lengths b (n .kids) (t + 40 * i + 48)
-  views-in e t q = (omega (arith, first-in e), record { inside = λ j h. omega (arith, l .laid .whole, ap (λ (x : Node). x .kids) (l .read), kids-inside b (l .laid .tree) i (l .inside)) })
+  -- data buffer j of views: few rows, which lie in the body
+  module _ (e : k ≡ Views) (j : ℕ) (h : j < n .kids) where
+    buffer : DataBuffer b i j
+    buffer = data-buffers b (l .laid .fields) (l .laid .tree) i (l .inside) (kind-is e) j (omega (arith, ap (λ (x : Node). x .kids) (l .read)))
+
+    buffer-few : skip b (dataBuffer i j) + rows b (dataBuffer i j) ≤ 1_048_576
+    unfolding places
+    buffer-few = places-few b (dataBuffer i j) (buffer .inside) (l .laid .rowed)
+
+    buffer-in : firstAt b (dataBuffer i j) + skip b (dataBuffer i j) + rows b (dataBuffer i j) ≤ tableStart b
+    unfolding places
+    buffer-in = omega (arith, rw (buffer .plain, buffer .width) at (first-inside b (dataBuffer i j) (buffer .inside) (l .laid .buffers)))
+
+  pub views-in : k ≡ Views → (t : ℕ) → t ≡ tableStart b → (n .«first_at» + 16 * n .skip + 16 * n .rows ≤ length b) × DataBuffers b (n .kids) (t + 40 * i + 48)
+  views-in e t q = (
+    omega (arith, first-in e),
+    record {
+      nodes = λ j h. omega (arith, l .laid .whole, buffer e j h .inside);
+      few = λ j h. rw (q, ← data-rows b i j) (omega (arith, buffer-few e j h));
+      bytes = λ j h. rw (q, ← data-rows b i j, ← data-skip b i j, ← data-first b i j) (omega (arith, table-inside, buffer-in e j h));
+    },
+  )
 
   pub runs-in : k ≡ Runs → (oneOf (2 ∷ 4 ∷ 8 ∷ []) (n .param) ≡ true) × (n .«first_at» + n .param * m ≤ length b)
-  runs-in e = (rw (l .read) (rw (kind-is e) at (param-passed b i (l .inside) (l .laid .fields))), first-in e)
+  runs-in e = (rw (l .read) (rw (kind-is e) at (params-right b i (l .inside) (l .laid .fields))), first-in e)
 
   -- the kernels' answers
   pub nothing-is : {K : Kind} → k ≡ K → badContent K b i ≡ false → false ≡ badContent (kind b i) b i
@@ -148,7 +163,7 @@ module _ {b : List ℕ} {i : ℕ} {n : Node} {k : Kind} {m : ℕ} (l : Looked b 
   unfolding badContent
   lists64-is e = rw (kind-is e, l .read, l .under) (lists-at b i 8 (rows b i))
 
-  pub views-is : k ≡ Views → (t : ℕ) → t ≡ tableStart b → anyBelow (badViewAt b (n .«first_at» + 16 * n .skip) (n .kids) (t + 40 * i + 48)) (n .rows) ≡ badContent (kind b i) b i
+  pub views-is : k ≡ Views → (t : ℕ) → t ≡ tableStart b → anyBelow (λ r. badViewAt b (n .kids) (t + 40 * i + 48) (n .«first_at» + 16 * n .skip + 16 * r)) (n .rows) ≡ badContent (kind b i) b i
   unfolding badContent
   views-is e t q = rw (kind-is e, l .read, q) (views-at b i (rows b i))
 
@@ -166,7 +181,7 @@ module _ {b : List ℕ} {i : ℕ} {n : Node} {k : Kind} {m : ℕ} (l : Looked b 
   -- a dictionary's keys: where they stand, and the kernels' answers without a bitmap and with one
   pub keys-in : k ≡ Dictionary → (oneOf (1 ∷ 2 ∷ 4 ∷ 8 ∷ []) (n .param) ≡ true) × (n .«first_at» + n .param * n .skip + n .param * n .rows ≤ length b)
   keys-in e = (
-    rw (l .read) (rw (kind-is e) at (param-passed b i (l .inside) (l .laid .fields))),
+    rw (l .read) (rw (kind-is e) at (params-right b i (l .inside) (l .laid .fields))),
     omega (arith, first-in e, mul-add (n .param) (n .skip) (n .rows)),
   )
 
@@ -177,8 +192,8 @@ module _ {b : List ℕ} {i : ℕ} {n : Node} {k : Kind} {m : ℕ} (l : Looked b 
   pub bits-in : (n .«validity_at» ≡ noBitmap → ⊥) → (8 * n .«validity_at» + n .skip + n .rows ≤ 8 * length b) × (n .skip + n .rows < 2 ^ 63)
   unfolding places bytesFor
   bits-in h =
-      let inside : n .«validity_at» + (n .skip + n .rows + 7) / 8 ≤ tableStart b = rw (l .read) (bitmap-passed b i (l .inside) (l .laid .buffers) (has-bitmap h)) in
-      (omega (arith, table-inside), omega (arith, places-few))
+      let inside : n .«validity_at» + (n .skip + n .rows + 7) / 8 ≤ tableStart b = rw (l .read) (bitmap-inside b i (l .inside) (l .laid .buffers) (has-bitmap h)) in
+      (omega (arith, table-inside), omega (arith, read-few))
 
   pub keys-are : n .«validity_at» ≡ noBitmap → anyBelow (badKey (n .param) b (n .«first_at» + n .param * n .skip) m) (n .rows) ≡ badContent Dictionary b i
   unfolding badContent hasNoBitmap

@@ -1,6 +1,6 @@
 -- Laws that the proofs of this crate share.
 pub mod Children
 pub mod Fits
-pub mod Passed
+pub mod Sizes
 pub mod Inside
 pub mod Order

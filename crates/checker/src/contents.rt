@@ -59,8 +59,8 @@ fn bad_content(pack: &[u8], i: u32) -> bool
         Kind::Bytes64 => bad_offsets64(pack, at + 8 * skip, rows, n.second_length),
         Kind::Views => {
             // the rows of the first data buffer: field 2 of the node behind this one
-            let lengths = table_start(pack) as usize + 40 * (i as usize) + 48;
-            bad_views(pack, at + 16 * skip, rows, n.kids, lengths)
+            let buffers = table_start(pack) as usize + 40 * (i as usize) + 48;
+            bad_views(pack, at + 16 * skip, rows, n.kids, buffers)
         }
         Kind::Lists32 => bad_lists32(pack, at + 4 * skip, second + 4 * skip, rows, below),
         Kind::Lists64 => bad_lists64(pack, at + 8 * skip, second + 8 * skip, rows, below),

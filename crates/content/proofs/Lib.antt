@@ -3,3 +3,4 @@ pub mod Fold
 pub mod Tests
 pub mod Nodes
 pub mod Signs
+pub mod ViewLaws

@@ -7,10 +7,10 @@ use native.Mathlib.Nat.{add-assoc, mul-add}
 use native.Mathlib.Omega.{arith}
 use lib.Dec.{leb, ltb}
 use Rattle.format.specs.Bytes.{le, negative, anyBelow}
-use Rattle.format.specs.Node.{tableStart, field, param, rows, skip, kids, validityAt, firstAt, secondAt, secondLength, places, hasNoBitmap, valid}
+use Rattle.format.specs.Node.{tableStart, field, param, rows, skip, kids, validityAt, firstAt, secondAt, places, hasNoBitmap, valid}
 use Rattle.format.specs.Node.{firstNumber, secondNumber, runEnd, runStart, child, dataBuffer}
-use Rattle.format.specs.Verdict.{badOffsets, viewField, badView, badRange, badRuns}
-use Rattle.content.specs.Numbers.{number, falls, badOffsetsAt, badRangeAt, badKey, badValidKey, startAt, badRunsAt, viewAt, badViewAt}
+use Rattle.format.specs.Verdict.{badOffsets, viewField, viewData, badLong, badShort, badView, badRange, badRuns}
+use Rattle.content.specs.Numbers.{number, falls, badOffsetsAt, badRangeAt, badKey, badValidKey, startAt, badRunsAt, viewAt, unusedAt, badLongAt, badViewAt}
 use Rattle.content.proofs.Fold.{any-ext}
 
 module _ (b : List ℕ) (i : ℕ) where
@@ -68,15 +68,40 @@ module _ (b : List ℕ) (i : ℕ) where
     unfolding badValidKey badKey valid
     valid-keys-at e = any-ext _ _ n (λ r l. rw (e, first-number w r))
 
-  view-field : (k r : ℕ) → viewField k b i r ≡ viewAt k b (firstAt b i + 16 * skip b i) r
+  -- the fields of view r, by its place
+  view-place : (r : ℕ) → firstAt b i + 16 * (skip b i + r) ≡ firstAt b i + 16 * skip b i + 16 * r
+  view-place r = after-skip 16 (firstAt b i) r
+
+  view-field : (k r : ℕ) → viewField k b i r ≡ viewAt k b (firstAt b i + 16 * skip b i + 16 * r)
   unfolding viewField viewAt
-  view-field k r = ap (λ (at : ℕ). le 4 b (at + 4 * k)) (after-skip 16 (firstAt b i) r)
+  view-field k r = ap (λ (at : ℕ). le 4 b (at + 4 * k)) (view-place r)
 
-  -- the rows of data buffer k, field 2 of its node
-  data-rows : (k : ℕ) → rows b (dataBuffer i k) ≡ le 4 b (tableStart b + 40 * i + 48 + 40 * k)
-  unfolding rows field
-  data-rows k = let e : tableStart b + 40 * suc (i + k) + 8 ≡ tableStart b + 40 * i + 48 + 40 * k = omega arith in ap (le 4 b) e
+  -- the fields of data buffer k, from the rows of the first on
+  module _ (k : ℕ) where
+    pub data-rows : rows b (dataBuffer i k) ≡ le 4 b (tableStart b + 40 * i + 48 + 40 * k)
+    unfolding rows field
+    data-rows = let e : tableStart b + 40 * suc (i + k) + 8 ≡ tableStart b + 40 * i + 48 + 40 * k = omega arith in ap (le 4 b) e
 
-  pub views-at : (n : ℕ) → anyBelow (badViewAt b (firstAt b i + 16 * skip b i) (kids b i) (tableStart b + 40 * i + 48)) n ≡ anyBelow (badView b i) n
-  unfolding badView badViewAt
-  views-at n = any-ext _ _ n (λ r l. rw (view-field 0 r, view-field 2 r, view-field 3 r, data-rows))
+    pub data-skip : skip b (dataBuffer i k) ≡ le 4 b (tableStart b + 40 * i + 48 + 40 * k + 4)
+    unfolding skip field
+    data-skip = let e : tableStart b + 40 * suc (i + k) + 12 ≡ tableStart b + 40 * i + 48 + 40 * k + 4 = omega arith in ap (le 4 b) e
+
+    pub data-first : firstAt b (dataBuffer i k) ≡ le 4 b (tableStart b + 40 * i + 48 + 40 * k + 16)
+    unfolding firstAt field
+    data-first = let e : tableStart b + 40 * suc (i + k) + 24 ≡ tableStart b + 40 * i + 48 + 40 * k + 16 = omega arith in ap (le 4 b) e
+
+  module _ (r : ℕ) where
+    long-at : badLong b i r ≡ badLongAt b (kids b i) (tableStart b + 40 * i + 48) (firstAt b i + 16 * skip b i + 16 * r)
+    unfolding badLong badLongAt viewData
+    long-at = rw (data-rows, data-skip, data-first, view-field 0 r, view-field 1 r, view-field 2 r, view-field 3 r)
+
+    short-at : badShort b i r ≡ unusedAt b (firstAt b i + 16 * skip b i + 16 * r) (viewField 0 b i r)
+    unfolding badShort unusedAt
+    short-at = rw (view-place r)
+
+    view-at : badViewAt b (kids b i) (tableStart b + 40 * i + 48) (firstAt b i + 16 * skip b i + 16 * r) ≡ badView b i r
+    unfolding badView badViewAt
+    view-at = rw (long-at, short-at, view-field 0 r)
+
+  pub views-at : (n : ℕ) → anyBelow (λ r. badViewAt b (kids b i) (tableStart b + 40 * i + 48) (firstAt b i + 16 * skip b i + 16 * r)) n ≡ anyBelow (badView b i) n
+  views-at n = any-ext _ _ n (λ r l. view-at r)

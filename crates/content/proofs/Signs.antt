@@ -1,22 +1,22 @@
 -- Tests by sign bits. A comparison of 64 bits is slow on vectors, but a difference of two numbers that are not negative has its top bit
 -- set just where the first is the smaller: such a loop joins by bits what it sees, and looks at the top bit once, at the end. One of 32 bits
 -- is quick if it is signed: that of two numbers with their sign bit turned. Assumes nothing.
-use Prim.Native.Nat.{ℕ, suc, _+_, _-_, _*_, _^_, _%_, _≤_, _<_, min}
-use mathlib.Core.Bool.{Bool, true, false, _&&_, _||_, or-assoc, or-comm, or-false, or-true}
+use Prim.Native.Nat.{ℕ, suc, _+_, _-_, _*_, _^_, _%_, _≤_, _<_}
+use mathlib.Core.Bool.{Bool, true, false, _||_, or-assoc, or-comm, or-false, or-true}
 use mathlib.Core.List.{List}
 use mathlib.Core.Logic.{⊎-elim, dite}
-use mathlib.Core.Path.{_≡_, refl, sym, ap, ap₂, _∙_}
+use mathlib.Core.Path.{_≡_, refl, sym, ap, _∙_}
 use native.Mathlib.Decide.{decLe}
 use native.Mathlib.Nat.{mod-lt, mod-eq-of-lt}
 use native.Mathlib.Omega.{arith}
 use borrow.Author.Tests.{le-leb, lt-leb, lt-ltb, le-ltb, leb-false}
-use lib.Bits.{bitAnd, bitOr, and-le-l, and-le-r, and-self, and-block, or-lt, or-add-and}
+use lib.Bits.{bitOr, and-le-l, and-le-r, or-lt, or-add-and}
 use lib.Dec.{leb, ltb}
 use Rattle.format.specs.Bytes.{le, anyBelow, negative}
-use Rattle.content.specs.Numbers.{number, falls, stalls, badOffsetsAt, badRangeAt, badRunsAt, startAt, badViewAt}
+use Rattle.content.specs.Numbers.{number, falls, stalls, badOffsetsAt, badRangeAt, badRunsAt, startAt}
 use Rattle.format.proofs.Accepted.{or-left, or-right}
 use Rattle.content.proofs.Fold.{any-front, any-more}
-use Rattle.content.proofs.Tests.{wrapped, view-is}
+use Rattle.content.proofs.Tests.{wrapped}
 
 -- the top bit of numbers that are joined
 top-or : (k a b : ℕ) → leb (2 ^ k) (bitOr a b) ≡ (leb (2 ^ k) a || leb (2 ^ k) b)
@@ -214,62 +214,3 @@ module _ (w m : ℕ) (b : List ℕ) (at sizes limit : ℕ) (half : m ≡ 2 ^ (8 
     where
       regroup : (a c d x y : Bool) → ((((a || c) || d) || x) || y) ≡ (a || (((c || d) || x) || y))
       regroup a c d x y = simp or-assoc
-
--- ---- views
-
--- the top bit of numbers that are met
-top-and : (k a b : ℕ) → a < 2 ^ k + 2 ^ k → b < 2 ^ k + 2 ^ k → leb (2 ^ k) (bitAnd a b) ≡ (leb (2 ^ k) a && leb (2 ^ k) b)
-top-and k a b ha hb =
-    dite (decLe (2 ^ k) a)
-    (λ h.
-    dite (decLe (2 ^ k) b)
-    (λ g. rw (le-leb (2 ^ k) a h, le-leb (2 ^ k) b g) (le-leb (2 ^ k) (bitAnd a b) (both h g)))
-    (λ g. rw (le-leb (2 ^ k) a h, lt-leb (2 ^ k) b (omega arith)) (lt-leb (2 ^ k) (bitAnd a b) (omega (arith, and-le-r a b)))))
-    (λ h. rw (lt-leb (2 ^ k) a (omega arith)) (lt-leb (2 ^ k) (bitAnd a b) (omega (arith, and-le-l a b))))
-  where
-    both : 2 ^ k ≤ a → 2 ^ k ≤ b → 2 ^ k ≤ bitAnd a b
-    both h g =
-        let ea : a ≡ 1 * 2 ^ k + (a - 2 ^ k) = omega arith in
-        let eb : b ≡ 1 * 2 ^ k + (b - 2 ^ k) = omega arith in
-        let e : bitAnd (1 * 2 ^ k + (a - 2 ^ k)) (1 * 2 ^ k + (b - 2 ^ k)) ≡ bitAnd 1 1 * 2 ^ k + bitAnd (a - 2 ^ k) (b - 2 ^ k) = and-block k 1 1 (a - 2 ^ k) (b - 2 ^ k) (omega arith) (omega arith) in
-        let one : bitAnd 1 1 ≡ 1 = and-self 1 in
-        let e′ : bitAnd a b ≡ 1 * 2 ^ k + bitAnd (a - 2 ^ k) (b - 2 ^ k) = rw (← ea, ← eb, one) at e in
-        omega arith
-
--- a difference of numbers below h, half of m, is negative just where the first is the smaller
-less-by-sign : (h m a b d : ℕ) → m ≡ h + h → a < h → b < h → d < m → (d + b) % m ≡ a → leb h d ≡ ltb a b
-less-by-sign h m a b d half ha hb hd e =
-    ⊎-elim
-    (λ q. rw (lt-leb h d (omega arith), le-ltb a b (omega arith)))
-    (λ q. rw (le-leb h d (omega arith), lt-ltb a b (omega arith)))
-    (wrapped m d b a hd (omega arith) e)
-
--- below one more is not above
-ltb-suc : (a b c : ℕ) → c ≡ b + 1 → ltb a c ≡ leb a b
-ltb-suc a b c e = dite (decLe a b) (λ h. rw (lt-ltb a c (omega arith), le-leb a b h)) (λ h. rw (le-ltb a c (omega arith), lt-leb a b (omega arith)))
-
-suc-leb : (a b c : ℕ) → c ≡ a + 1 → ltb a b ≡ leb c b
-suc-leb a b c e = dite (decLe c b) (λ h. rw (lt-ltb a b (omega arith), le-leb c b h)) (λ h. rw (le-ltb a b (omega arith), lt-leb c b (omega arith)))
-
--- a view by the signs of four differences; `last` is the greatest length that is not negative
-module _ (k m last : ℕ) (half : m ≡ 2 ^ k + 2 ^ k) (b : List ℕ) (at kids table r len buffer offset rows i : ℕ)
-    (el : len ≡ le 4 b (at + 16 * r)) (eb : buffer ≡ le 4 b (at + 16 * r + 8)) (eo : offset ≡ le 4 b (at + 16 * r + 12)) (ei : i ≡ min buffer kids) (er : rows ≡ le 4 b (table + 40 * i))
-    (sl : last < 2 ^ k) (s0 : 12 < 2 ^ k) (s1 : len < 2 ^ k) (s2 : offset + len < 2 ^ k) (s3 : rows < 2 ^ k) (s4 : kids < 2 ^ k) (s5 : buffer + 1 < 2 ^ k) where
-  pub view-by-sign : 0x8000_0000 ≡ last + 1 → (n g p q : ℕ) → n < m → g < m → p < m → q < m → bitOr p q < m
-      → (n + len) % m ≡ last → (g + len) % m ≡ 12 → (p + (offset + len)) % m ≡ rows → (q + (buffer + 1)) % m ≡ kids
-      → leb (2 ^ k) (bitOr n (bitAnd g (bitOr p q))) ≡ badViewAt b at kids table r
-  view-by-sign top n g p q hn hg hp hq hpq en eg ep eq =
-      let s = less-by-sign (2 ^ k) m in
-      let one : leb (2 ^ k) n ≡ leb 0x8000_0000 len = s last len n half sl s1 hn en ∙ suc-leb last len 0x8000_0000 top in
-      let two : leb (2 ^ k) g ≡ ltb 12 len = s 12 len g half s0 s1 hg eg in
-      let three : leb (2 ^ k) p ≡ ltb rows (offset + len) = s rows (offset + len) p half s3 s2 hp ep in
-      let four : leb (2 ^ k) q ≡ leb kids buffer = s kids (buffer + 1) q half s4 s5 hq eq ∙ ltb-suc kids buffer (buffer + 1) refl in
-      top-or k n (bitAnd g (bitOr p q))
-      ∙ ap₂ _||_ one
-      (top-and k g (bitOr p q) (rw (← half) hg) (rw (← half) hpq)
-      ∙ ap₂ _&&_ two (top-or k p q ∙ ap₂ _||_ three four ∙ or-comm (ltb rows (offset + len)) (leb kids buffer)))
-      ∙ view-is b at kids table r len buffer offset rows i el eb eo ei er
-
--- one view more
-pub top-more : (k : ℕ) (bad : ℕ → Bool) (top i j x : ℕ) → leb (2 ^ k) top ≡ anyBelow bad i → leb (2 ^ k) x ≡ bad i → j ≡ i + 1 → leb (2 ^ k) (bitOr top x) ≡ anyBelow bad j
-top-more k bad top i j x s e n = top-or k top x ∙ any-more bad i j s e n

@@ -1,5 +1,5 @@
 -- Each loop's test, as the code writes it, is the definition's; over the width. Assumes nothing.
-use Prim.Native.Nat.{ℕ, suc, _+_, _-_, _*_, _^_, _/_, _%_, _≤_, _<_, min}
+use Prim.Native.Nat.{ℕ, suc, _+_, _-_, _*_, _^_, _/_, _%_, _≤_, _<_}
 use mathlib.Core.Bool.{Bool, true, false, _&&_, _||_, or-false}
 use mathlib.Core.List.{List, [], _∷_}
 use mathlib.Core.Logic.{_⊎_, inl, inr, ⊎-elim, dite}
@@ -7,12 +7,12 @@ use mathlib.Core.Path.{_≡_, refl, sym, ap, _∙_}
 use native.Mathlib.Decide.{decLt}
 use native.Mathlib.Nat.{add-zero, mul-suc, mul-le-mul-left, mod-eq-of-lt, add-mod-right, not-le-of-lt}
 use native.Mathlib.Omega.{arith}
-use borrow.Author.Tests.{lt-ltb, le-ltb, lt-leb, le-leb, ltb-true, ltb-false, eqb-true, ne-eqb}
+use borrow.Author.Tests.{lt-ltb, le-ltb, lt-leb, ltb-true, ltb-false, eqb-true, ne-eqb}
 use lib.Dec.{eqb, leb, ltb}
 use lib.ListN.{getD}
 use Rattle.format.specs.Bytes.{le, anyBelow, bitIn, bitAt, negative, sumBelow}
 use Rattle.format.specs.Verdict.{oneOf}
-use Rattle.content.specs.Numbers.{number, badRangeAt, badKey, badValidKey, stalls, startAt, badRunsAt, viewAt, badViewAt}
+use Rattle.content.specs.Numbers.{number, badRangeAt, badKey, badValidKey, stalls, startAt, badRunsAt}
 use Rattle.content.proofs.Fold.{any-never, any-front, any-and}
 
 -- two tests that say the same come out the same
@@ -129,15 +129,3 @@ width-last w x y z e hx hy = eqb-true w z (sym (or-false (eqb w z)) ∙ rw (ne-e
 pub width-last4 : (w v x y z : ℕ) → oneOf (v ∷ x ∷ y ∷ z ∷ []) w ≡ true → (w ≡ v → ⊥) → (w ≡ x → ⊥) → (w ≡ y → ⊥) → w ≡ z
 unfolding oneOf
 width-last4 w v x y z e hv hx hy = width-last w x y z (rw (ne-eqb w v hv) at e) hx hy
-
--- views
-pub view-is : (b : List ℕ) (at kids table r len buffer offset rows k : ℕ)
-    → len ≡ le 4 b (at + 16 * r) → buffer ≡ le 4 b (at + 16 * r + 8) → offset ≡ le 4 b (at + 16 * r + 12)
-    → k ≡ min buffer kids → rows ≡ le 4 b (table + 40 * k)
-    → (leb 0x8000_0000 len || ltb 12 len && (leb kids buffer || ltb rows (offset + len))) ≡ badViewAt b at kids table r
-unfolding badViewAt viewAt negative
-view-is b at kids table r len buffer offset rows k el eb eo ek er =
-    rw (add-zero, ← el, ← eb, ← eo)
-    (dite (decLt buffer kids)
-    (λ h. let q : k ≡ buffer = omega arith in rw (er, q))
-    (λ h. rw (le-leb kids buffer (omega arith))))

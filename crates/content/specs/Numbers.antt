@@ -1,9 +1,9 @@
 -- Numbers of w bytes each, from a place on, and when they are no offsets, list views, run ends or keys. Assumes nothing.
-use Prim.Native.Nat.{ℕ, zero, suc, _+_, _*_, _≤_}
-use mathlib.Core.Bool.{Bool, _&&_, _||_}
+use Prim.Native.Nat.{ℕ, zero, suc, _+_, _*_, _^_, _≤_, _<_}
+use mathlib.Core.Bool.{Bool, cond, not, _&&_, _||_}
 use mathlib.Core.List.{List}
-use lib.Dec.{leb, ltb}
-use lib.ListN.{length}
+use lib.Dec.{eqb, leb, ltb}
+use lib.ListN.{length, getD}
 use Rattle.format.specs.Bytes.{le, negative, anyBelow, bitAt}
 
 -- number r
@@ -44,18 +44,30 @@ unfoldable pub badRunsAt : ℕ → List ℕ → ℕ → ℕ → ℕ → Bool
 badRunsAt w b at n places =
     anyBelow (λ j. negative w (number w b at j) || leb (number w b at j) (startAt w b at j)) n || ltb (startAt w b at n) places
 
--- field k of view r, 4 bytes each: length, prefix, buffer number, offset
-unfoldable pub viewAt : ℕ → List ℕ → ℕ → ℕ → ℕ
-viewAt k b at r = le 4 b (at + 16 * r + 4 * k)
+-- field k of the view at a place, 4 bytes each: length, prefix, buffer number, offset
+unfoldable pub viewAt : ℕ → List ℕ → ℕ → ℕ
+viewAt k b here = le 4 b (here + 4 * k)
 
--- view r: its length is negative, or above 12 and its range leaves the data buffer that it names, of `kids` buffers. The rows of data
--- buffer k stand in the node table, 40 bytes after those of the one before
-unfoldable pub badViewAt : List ℕ → ℕ → ℕ → ℕ → ℕ → Bool
-badViewAt b at kids table r =
-    negative 4 (viewAt 0 b at r)
-    || ltb 12 (viewAt 0 b at r)
-    && (leb kids (viewAt 2 b at r) || ltb (le 4 b (table + 40 * viewAt 2 b at r)) (viewAt 3 b at r + viewAt 0 b at r))
+-- of the 12 bytes behind a view's length, one past `len` of them is not zero
+unfoldable pub unusedAt : List ℕ → ℕ → ℕ → Bool
+unusedAt b here len = anyBelow (λ k. leb len k && not (eqb (getD b (here + 4 + k) 0) 0)) 12
 
--- the rows of `kids` data buffers can be read, and what stands behind them
-pub record Lengths (b : List ℕ) (kids table : ℕ) : Type 0 where
-  pub inside : (k : ℕ) → k ≤ kids → table + 40 * k + 4 ≤ length b
+-- the range of a long view leaves the data buffer that it names, of `kids` buffers, or its prefix is not the first four data bytes. Rows, skip and first at
+-- of data buffer k stand in the node table, 40 bytes after those of the one before; `buffers` is where the rows of the first do
+unfoldable pub badLongAt : List ℕ → ℕ → ℕ → ℕ → Bool
+badLongAt b kids buffers here =
+    let node = buffers + 40 * viewAt 2 b here in
+    leb kids (viewAt 2 b here)
+    || ltb (le 4 b node) (viewAt 3 b here + viewAt 0 b here)
+    || not (eqb (viewAt 1 b here) (le 4 b (le 4 b (node + 16) + le 4 b (node + 4) + viewAt 3 b here)))
+
+-- the view at a place: its length is negative, or it is wrong as a long one, above 12, or as a short one
+unfoldable pub badViewAt : List ℕ → ℕ → ℕ → ℕ → Bool
+badViewAt b kids buffers here =
+    negative 4 (viewAt 0 b here) || cond (ltb 12 (viewAt 0 b here)) (badLongAt b kids buffers here) (unusedAt b here (viewAt 0 b here))
+
+-- `kids` data buffers: their nodes can be read, they have few rows, and so can those rows be
+pub record DataBuffers (b : List ℕ) (kids buffers : ℕ) : Type 0 where
+  pub nodes : (k : ℕ) → k < kids → buffers + 40 * k + 20 ≤ length b
+  pub few : (k : ℕ) → k < kids → le 4 b (buffers + 40 * k) < 2 ^ 31
+  pub bytes : (k : ℕ) → k < kids → le 4 b (buffers + 40 * k + 16) + le 4 b (buffers + 40 * k + 4) + le 4 b (buffers + 40 * k) ≤ length b

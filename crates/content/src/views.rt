@@ -1,49 +1,78 @@
 // Views, 16 bytes each: length, prefix, buffer number, offset; or length and up to 12 bytes.
+ghost use mathlib.Core.Bool.{_||_};
 ghost use mathlib.Core.Path.{_≡_};
-ghost use Prim.Native.Nat.{_+_, _*_, _^_, _≤_, min};
-ghost use lib.Dec.{leb};
+ghost use Prim.Native.Nat.{_+_, _*_, _≤_, _<_, min};
 ghost use lib.ListN.{length};
-ghost use Rattle.format.specs.Bytes.{anyBelow};
-ghost use Rattle.content.specs.Numbers.{badViewAt, Lengths};
-use std::num::wrapping_sub_u64;
+ghost use Rattle.format.specs.Bytes.{le, negative, anyBelow};
+ghost use Rattle.content.specs.Numbers.{unusedAt, badLongAt, badViewAt, DataBuffers};
 use words::get32;
+use words::get64;
 
 // The lesser of two numbers.
-fn least(a: u32, b: u32) -> u32
+fn least(a: u64, b: u64) -> u64
     ensures { λ r. ⌜ r ≡ min a b ⌝ }
 {
     if a < b { a } else { b }
 }
 
-// What is wrong with view r, told by the top bit: its length is negative, or above 12 and its range leaves the data buffer that it names. By signs of
-// differences, with no branch and no comparison: quicker in a model of the loop, but in the benchmark no gain over comparisons was seen. The rows of the
-// data buffers stand in the table, 40 bytes apart. They are read for any view: a buffer that is not there reads the place behind.
-fn view_sign(s: &[u8], at: usize, r: usize, kids: u32, table: usize) -> u64
-    requires { ⌜ (at + 16 * r + 16 ≤ length (now s)) × Lengths (now s) kids table ⌝ }
-    ensures { λ t. ⌜ leb (2 ^ 63) t ≡ badViewAt (now (s .entry)) at kids table r ⌝ }
+// Whether a short view has a byte that is not zero past its length: the bytes that it uses are shifted out, and nothing may be left. The last eight go
+// by half of the bits twice, since a shift by all 64 bits is none.
+fn bad_unused(s: &[u8], here: usize, len: u32) -> bool
+    requires { ⌜ (here + 16 ≤ length (now s)) × (len ≤ 12) ⌝ }
+    ensures { λ t. ⌜ t ≡ unusedAt (now (s .entry)) here len ⌝ }
 {
-    let here = at + 16 * r;
-    let len = get32(s, here) as u64;
-    let buffer = get32(s, here + 8);
-    let offset = get32(s, here + 12) as u64;
-    let rows = get32(s, table + 40 * (least(buffer, kids) as usize)) as u64;
-    let negative = wrapping_sub_u64(0x7FFF_FFFF, len);
-    let long = wrapping_sub_u64(12, len);
-    let past = wrapping_sub_u64(rows, offset + len);
-    let missing = wrapping_sub_u64(kids as u64, buffer as u64 + 1);
-    negative | (long & (past | missing))
+    let front = get32(s, here + 4) as u64;
+    let back = get64(s, here + 8);
+    let few = least(len as u64, 4);
+    let half = 4 * (len as u64 - few);
+    ((front >> (8 * few)) | ((back >> half) >> half)) != 0
 }
 
-// Whether some of n views is wrong.
-pub fn bad_views(s: &[u8], at: usize, n: usize, kids: u32, table: usize) -> bool
-    requires { ⌜ (at + 16 * n ≤ length (now s)) × Lengths (now s) kids table ⌝ }
-    ensures { λ r. ⌜ r ≡ anyBelow (badViewAt (now (s .entry)) at kids table) n ⌝ }
+// Whether a long view is wrong. Its data bytes are read only once its range is known to lie in the buffer. A negative length is read as 2³¹ or more, and
+// so is past the end of any.
+fn bad_long(s: &[u8], here: usize, kids: u32, buffers: usize) -> bool
+    requires { ⌜ (here + 16 ≤ length (now s)) × (12 < le 4 (now s) here) × DataBuffers (now s) kids buffers ⌝ }
+    ensures { λ t. ⌜ t ≡ (negative 4 (le 4 (now (s .entry)) here) || badLongAt (now (s .entry)) kids buffers here) ⌝ }
 {
-    let mut top: u64 = 0;
+    let buffer = get32(s, here + 8);
+    if kids <= buffer {
+        return true;
+    }
+    let node = buffers + 40 * (buffer as usize);
+    let offset = get32(s, here + 12);
+    let rows = get32(s, node) as u64;
+    if rows < offset as u64 + get32(s, here) as u64 {
+        return true;
+    }
+    let data = get32(s, node + 16) as usize + get32(s, node + 4) as usize + offset as usize;
+    get32(s, here + 4) != get32(s, data)
+}
+
+// Whether the view at a place is wrong. Long or short is a branch, as it is in Rust: where neighbours are of one sort the processor foresees it, and then
+// only that sort's test is made. Without a branch both are, and lengths of one sort take up to twice as long (docs/DECISIONS.md, 77).
+fn bad_view(s: &[u8], here: usize, kids: u32, buffers: usize) -> bool
+    requires { ⌜ (here + 16 ≤ length (now s)) × DataBuffers (now s) kids buffers ⌝ }
+    ensures { λ t. ⌜ t ≡ badViewAt (now (s .entry)) kids buffers here ⌝ }
+{
+    let len = get32(s, here);
+    if 12 < len {
+        bad_long(s, here, kids, buffers)
+    } else {
+        bad_unused(s, here, len)
+    }
+}
+
+// Whether some of n views is wrong: the first that is ends the walk.
+pub fn bad_views(s: &[u8], at: usize, n: usize, kids: u32, buffers: usize) -> bool
+    requires { ⌜ (at + 16 * n ≤ length (now s)) × DataBuffers (now s) kids buffers ⌝ }
+    ensures { λ r. ⌜ r ≡ anyBelow (λ r. badViewAt (now (s .entry)) kids buffers (at + 16 * r)) n ⌝ }
+{
     let mut i: usize = 0;
     while i < n {
-        top = top | view_sign(s, at, i, kids, table);
+        if bad_view(s, at + 16 * i, kids, buffers) {
+            return true;
+        }
         i += 1;
     }
-    0x8000_0000_0000_0000 <= top
+    false
 }

@@ -7,16 +7,16 @@ use mathlib.Core.Logic.{_⊎_, inl, inr, ⊎-elim, dite}
 use native.Mathlib.Decide.{ℕ-discrete}
 use native.Mathlib.Nat.{eq-or-lt-of-le, add-zero, add-suc}
 use native.Mathlib.Omega.{arith}
-use borrow.Author.Tests.{ltb-false, leb-false, leb-true, eqb-true, eq-eqb, ne-eqb, lt-ltb, not-false}
+use borrow.Author.Tests.{ltb-false, leb-false, leb-true, eqb-true, eq-eqb, ne-eqb, lt-ltb, le-ltb, le-leb, not-false}
 use lib.Dec.{eqb, leb, ltb, lit≤}
-use lib.ListN.{length}
+use lib.ListN.{length, getD}
 use Rattle.format.specs.declared.Kind.{Kind}
 use Rattle.format.specs.declared.Kind.the-variants.{Bits, Native, Fixed, Bytes32, Bytes64, Views, Lists32, Lists64, Runs, Struct, Union, Dictionary, Nested32, Nested64, Unknown}
 use Rattle.format.specs.Bytes.{anyBelow, negative, bytesFor}
-use Rattle.format.specs.Node.{nodeCount, tableStart, rootRows, places, hasNoBitmap, noBitmap, validityAt, firstAt, kindNumber, kindOf, kind, ofKind, param, rows, kids, secondAt, secondLength}
+use Rattle.format.specs.Node.{nodeCount, tableStart, rootRows, places, hasNoBitmap, noBitmap, validityAt, firstAt, kindNumber, kindOf, kind, ofKind, param, rows, skip, kids, secondAt, secondLength}
 use Rattle.format.specs.Node.{firstNumber, secondNumber, runEnd, runStart, valid, parent, depth, child, dataBuffer, Ancestor, ancestor, closed, oneLess, ancestors, innermost}
 use Rattle.format.specs.Verdict.{packLimit, wrongSize, wrongTable, wrongFields, wrongTree, wrongRows, wrongBuffers, wrongContent, wrongRoot, journalVerdict, maskVerdict}
-use Rattle.format.specs.Verdict.{badFields, layout, oneOf, notClosed, empty, badDataBuffer, badChildRows, badBuffers, firstSize, secondSize, badContent, badRuns, badOffsets, badView, badRange, viewField}
+use Rattle.format.specs.Verdict.{badFields, layout, oneOf, notClosed, empty, badDataBuffer, badChildRows, badBuffers, firstSize, secondSize, badContent, badRuns, badOffsets, badView, badLong, badShort, badRange, viewField}
 use Rattle.format.specs.Accepted.{OneChild, Shares, Carries, Nests, Inner, shared, byRuns, carried, bySpans, DataBuffer, Shape, Fields, InBody, Offsets, Spans, ViewLies, RunEnds, Sound, SoundMask}
 use Rattle.format.specs.Accepted as is
 use Rattle.format.proofs.Laws.{any-none, Accepted, accepted, accepted-mask, parent-before}
@@ -247,88 +247,56 @@ innermost-is : (b : List ℕ) (n i k : ℕ) (s : List Ancestor) → ancestors b 
 unfolding parent innermost
 innermost-is b n i k s e = rw e
 
--- The facts, subject by subject
+-- What each condition tells by itself: they are tested in turn, and while one is, the later ones are not known
 
-module _ (b : List ℕ) (a : Accepted b) where
+module _ (b : List ℕ) (e : wrongTable b ≡ false) where
   some-nodes : 1 ≤ nodeCount b
   unfolding wrongTable
-  some-nodes = ltb-false _ _ (or-left _ _ (or-left _ _ (a .tabled)))
+  some-nodes = ltb-false _ _ (or-left _ _ (or-left _ _ e))
 
-  few-nodes : nodeCount b ≤ 64
+  pub few-nodes : nodeCount b ≤ 64
   unfolding wrongTable
-  few-nodes = ltb-false _ _ (or-right (ltb (nodeCount b) 1) _ (or-left _ _ (a .tabled)))
+  few-nodes = ltb-false _ _ (or-right (ltb (nodeCount b) 1) _ (or-left _ _ e))
 
-  table-place : tableStart b + 40 * nodeCount b + 16 ≡ length b
+  pub table-place : tableStart b + 40 * nodeCount b + 16 ≡ length b
   unfolding wrongTable
-  table-place = eqb-true _ _ (not-false _ (or-right (ltb (nodeCount b) 1 || ltb 64 (nodeCount b)) _ (a .tabled)))
+  table-place = eqb-true _ _ (not-false _ (or-right (ltb (nodeCount b) 1 || ltb 64 (nodeCount b)) _ e))
 
-  few-bytes : length b ≤ packLimit
-  unfolding wrongSize
-  few-bytes = ltb-false _ _ (or-right (ltb (length b) 16) _ (a .size))
-
-  tree-ends : empty (ancestors b (nodeCount b)) ≡ true
-  unfolding wrongTree notClosed
-  tree-ends = not-false _ (or-right (anyBelow (λ i. ltb 0 i && empty (ancestors b i)) (nodeCount b)) _ (or-left _ _ (or-left _ _ (a .tree))))
-
-  -- where a node is still open, there is another node
-  goes-on : (n i k : ℕ) (s : List Ancestor) → n ≤ nodeCount b → ancestors b n ≡ ancestor i k ∷ s → n < nodeCount b
-  goes-on n i k s h e =
-      ⊎-elim (λ q. absurd (false≢true (sym (opened b n i k s e) ∙ ap (λ (j : ℕ). empty (ancestors b j)) q ∙ tree-ends))) (λ l. l) (eq-or-lt-of-le h)
-
-  module _ (i : ℕ) (h : i < nodeCount b) where
+module _ (b : List ℕ) (i : ℕ) (h : i < nodeCount b) where
+  module _ (e : wrongFields b ≡ false) where
     fields-right : badFields (layout (kind b i)) b i ≡ false
     unfolding wrongFields
-    fields-right = any-none (λ k. badFields (layout (kind b k)) b k) (nodeCount b) i h (a .fields)
+    fields-right = any-none (λ k. badFields (layout (kind b k)) b k) (nodeCount b) i h e
 
-    params-right : layout (kind b i) .params (param b i) ≡ true
+    pub params-right : layout (kind b i) .params (param b i) ≡ true
     unfolding badFields
     params-right = not-false _ (or-left _ _ (or-left _ _ (or-left _ _ (or-left _ _ (or-left _ _ (or-left _ _ fields-right))))))
 
-    kids-right : layout (kind b i) .children (kids b i) ≡ true
+    pub kids-right : layout (kind b i) .children (kids b i) ≡ true
     unfolding badFields
     kids-right = not-false _ (or-right (not (layout (kind b i) .params (param b i))) _ (or-left _ _ (or-left _ _ (or-left _ _ (or-left _ _ (or-left _ _ fields-right))))))
 
-    no-marks : layout (kind b i) .bitmap ≡ false → validityAt b i ≡ noBitmap
-    unfolding badFields hasNoBitmap
-    no-marks e =
-        let f : (layout (kind b i) .bitmap || hasNoBitmap b i) ≡ true =
-        not-false _ (or-right (not (layout (kind b i) .params (param b i)) || not (layout (kind b i) .children (kids b i))) _ (or-left _ _ (or-left _ _ (or-left _ _ (or-left _ _ fields-right))))) in
-        eqb-true _ _ (rw e at f)
+  pub places-few : wrongRows b ≡ false → places b i ≤ 1_048_576
+  unfolding wrongRows
+  places-few e = ltb-false _ _ (any-none (λ i. ltb 1_048_576 (places b i)) (nodeCount b) i h (or-left _ _ (or-left _ _ e)))
 
-    fields-are : Fields b i
-    fields-are =
-        record {
-          known = known-of (kind b i) (param b i) params-right;
-          params = params-right;
-          children = kids-right;
-          narrow = narrow-of (kind b i) (param b i) params-right;
-          unmarked = no-marks;
-        }
-
-    shallow : depth b i ≤ 8
-    unfolding wrongTree
-    shallow = ltb-false _ _ (any-none (λ k. ltb 8 (depth b k)) (nodeCount b) i h (or-right (notClosed b) _ (or-left _ _ (a .tree))))
-
-    places-few : places b i ≤ 1_048_576
-    unfolding wrongRows
-    places-few = ltb-false _ _ (any-none (λ i. ltb 1_048_576 (places b i)) (nodeCount b) i h (or-left _ _ (or-left _ _ (a .rowed))))
-
+  module _ (e : wrongBuffers b ≡ false) where
     buffers-right : badBuffers b i ≡ false
     unfolding wrongBuffers
-    buffers-right = any-none (badBuffers b) (nodeCount b) i h (a .buffers)
+    buffers-right = any-none (badBuffers b) (nodeCount b) i h e
 
-    bitmap-inside : hasNoBitmap b i ≡ false → validityAt b i + bytesFor (places b i) ≤ tableStart b
+    pub bitmap-inside : hasNoBitmap b i ≡ false → validityAt b i + bytesFor (places b i) ≤ tableStart b
     unfolding badBuffers
-    bitmap-inside e =
+    bitmap-inside f =
         ltb-false _ _
-        (and-right (not (hasNoBitmap b i)) (ltb (tableStart b) (validityAt b i + bytesFor (places b i))) (or-left _ _ (or-left _ _ buffers-right)) (ap not e))
+        (and-right (not (hasNoBitmap b i)) (ltb (tableStart b) (validityAt b i + bytesFor (places b i))) (or-left _ _ (or-left _ _ buffers-right)) (ap not f))
 
-    first-inside : firstAt b i + firstSize (kind b i) (param b i) (places b i) (rows b (child i)) ≤ tableStart b
+    pub first-inside : firstAt b i + firstSize (kind b i) (param b i) (places b i) (rows b (child i)) ≤ tableStart b
     unfolding badBuffers
     first-inside =
         ltb-false _ _ (or-right (not (hasNoBitmap b i) && ltb (tableStart b) (validityAt b i + bytesFor (places b i))) _ (or-left _ _ buffers-right))
 
-    second-inside : secondAt b i + secondSize (kind b i) (places b i) (secondLength b i) ≤ tableStart b
+    pub second-inside : secondAt b i + secondSize (kind b i) (places b i) (secondLength b i) ≤ tableStart b
     unfolding badBuffers
     second-inside =
         ltb-false _ _
@@ -338,8 +306,96 @@ module _ (b : List ℕ) (a : Accepted b) where
         _
         buffers-right)
 
+module _ (b : List ℕ) (e : wrongTree b ≡ false) where
+  pub tree-ends : empty (ancestors b (nodeCount b)) ≡ true
+  unfolding wrongTree notClosed
+  tree-ends = not-false _ (or-right (anyBelow (λ i. ltb 0 i && empty (ancestors b i)) (nodeCount b)) _ (or-left _ _ (or-left _ _ e)))
+
+  -- where a node is still open, there is another node
+  goes-on : (n i k : ℕ) (s : List Ancestor) → n ≤ nodeCount b → ancestors b n ≡ ancestor i k ∷ s → n < nodeCount b
+  goes-on n i k s h e =
+      ⊎-elim (λ q. absurd (false≢true (sym (opened b n i k s e) ∙ ap (λ (j : ℕ). empty (ancestors b j)) q ∙ tree-ends))) (λ l. l) (eq-or-lt-of-le h)
+
+-- the data buffers of a views node: each has no child, so they stand side by side
+module _ (b : List ℕ) (fields : wrongFields b ≡ false) (tree : wrongTree b ≡ false) where
+  module _ (j : ℕ) (some : 0 < j) (l : j < nodeCount b) (e : kind b (parent b j) ≡ Views) where
+    data-buffer : (ofKind 2 b j && eqb (param b j) 1 && hasNoBitmap b j) ≡ true
+    unfolding wrongTree badDataBuffer
+    data-buffer =
+        not-false _
+        (and-right (ofKind 6 b (parent b j)) _ (below-root (badDataBuffer b) (nodeCount b) j some l (or-right (notClosed b || anyBelow (λ i. ltb 8 (depth b i)) (nodeCount b)) _ tree))
+        (views-number b (parent b j) e))
+
+    buffer-native : kind b j ≡ Native
+    unfolding ofKind kindOf
+    buffer-native = kind-number b j 2 (eqb-true _ _ (and-first _ _ (and-first _ _ data-buffer)))
+
+    buffer-width : param b j ≡ 1
+    buffer-width = eqb-true _ _ (and-second (ofKind 2 b j) _ (and-first _ _ data-buffer))
+
+    buffer-unmarked : validityAt b j ≡ noBitmap
+    unfolding hasNoBitmap
+    buffer-unmarked = eqb-true _ _ (and-second (ofKind 2 b j && eqb (param b j) 1) _ data-buffer)
+
+    buffer-childless : kids b j ≡ 0
+    buffer-childless = eqb-true _ _ (rw buffer-native at (kids-right b j l fields))
+
+  module _ (i : ℕ) (h : i < nodeCount b) (v : kind b i ≡ Views) where
+    data-open : (k d : ℕ) → suc k + d ≡ kids b i → (ancestors b (dataBuffer i k) ≡ ancestor i (suc d) ∷ oneLess (ancestors b i)) × (dataBuffer i k < nodeCount b)
+    data-open zero d e =
+        let q : ancestors b (suc (i + 0)) ≡ ancestor i (suc d) ∷ oneLess (ancestors b i) = rw (add-zero i) (opens b i d (omega arith)) in
+        (q, goes-on b tree (suc (i + 0)) i (suc d) _ (omega arith) q)
+    data-open (suc k) d e =
+        let (f, l) = data-open k (suc d) (omega arith) in
+        let p : parent b (suc (i + k)) ≡ i = innermost-is b (suc (i + k)) i (suc (suc d)) _ f in
+        let q : ancestors b (suc (i + suc k)) ≡ ancestor i (suc d) ∷ oneLess (ancestors b i) =
+        rw (add-suc i k) (passes b i (suc (i + k)) d _ (buffer-childless (suc (i + k)) (omega arith) l (rw p v)) f) in
+        (q, goes-on b tree (suc (i + suc k)) i (suc d) _ (omega arith) q)
+
+    pub data-buffers : (k : ℕ) → k < kids b i → DataBuffer b i k
+    data-buffers k m =
+        let (f, l) = data-open k (kids b i - suc k) (omega arith) in
+        let p : parent b (dataBuffer i k) ≡ i = innermost-is b (dataBuffer i k) i _ _ f in
+        let e : kind b (parent b (dataBuffer i k)) ≡ Views = rw p v in
+        record {
+          inside = l;
+          under = p;
+          plain = buffer-native (dataBuffer i k) (omega arith) l e;
+          width = buffer-width (dataBuffer i k) (omega arith) l e;
+          unmarked = buffer-unmarked (dataBuffer i k) (omega arith) l e;
+        }
+
+-- The facts, subject by subject
+
+module _ (b : List ℕ) (a : Accepted b) where
+  few-bytes : length b ≤ packLimit
+  unfolding wrongSize
+  few-bytes = ltb-false _ _ (or-right (ltb (length b) 16) _ (a .size))
+
+  module _ (i : ℕ) (h : i < nodeCount b) where
+    no-marks : layout (kind b i) .bitmap ≡ false → validityAt b i ≡ noBitmap
+    unfolding badFields hasNoBitmap
+    no-marks e =
+        let f : (layout (kind b i) .bitmap || hasNoBitmap b i) ≡ true =
+        not-false _ (or-right (not (layout (kind b i) .params (param b i)) || not (layout (kind b i) .children (kids b i))) _ (or-left _ _ (or-left _ _ (or-left _ _ (or-left _ _ (fields-right b i h (a .fields))))))) in
+        eqb-true _ _ (rw e at f)
+
+    fields-are : Fields b i
+    fields-are =
+        record {
+          known = known-of (kind b i) (param b i) (params-right b i h (a .fields));
+          params = params-right b i h (a .fields);
+          children = kids-right b i h (a .fields);
+          narrow = narrow-of (kind b i) (param b i) (params-right b i h (a .fields));
+          unmarked = no-marks;
+        }
+
+    shallow : depth b i ≤ 8
+    unfolding wrongTree
+    shallow = ltb-false _ _ (any-none (λ k. ltb 8 (depth b k)) (nodeCount b) i h (or-right (notClosed b) _ (or-left _ _ (a .tree))))
+
     in-body : InBody b i
-    in-body = record { bitmap = bitmap-inside; first = first-inside; second = second-inside }
+    in-body = record { bitmap = bitmap-inside b i h (a .buffers); first = first-inside b i h (a .buffers); second = second-inside b i h (a .buffers) }
 
     content-right : (k : Kind) → kind b i ≡ k → badContent k b i ≡ false
     unfolding wrongContent
@@ -372,8 +428,8 @@ module _ (b : List ℕ) (a : Accepted b) where
         record {
           rise = offsets-rise 4 _ bad;
           inside = λ r l. offset-below 4 _ bad (rows b i - r) r (omega arith);
-          lie = rw e at first-inside;
-          dataLies = rw e at second-inside;
+          lie = rw e at (first-inside b i h (a .buffers));
+          dataLies = rw e at (second-inside b i h (a .buffers));
         }
 
     offsets64-are : kind b i ≡ Bytes64 → Offsets 8 b i
@@ -383,8 +439,8 @@ module _ (b : List ℕ) (a : Accepted b) where
         record {
           rise = offsets-rise 8 _ bad;
           inside = λ r l. offset-below 8 _ bad (rows b i - r) r (omega arith);
-          lie = rw e at first-inside;
-          dataLies = rw e at second-inside;
+          lie = rw e at (first-inside b i h (a .buffers));
+          dataLies = rw e at (second-inside b i h (a .buffers));
         }
 
     spans-are : (w : ℕ) → Nests w (kind b i) → Spans w b i
@@ -397,31 +453,48 @@ module _ (b : List ℕ) (a : Accepted b) where
             record {
               rise = offsets-rise 4 _ bad;
               inside = λ r l. offset-below 4 _ bad (rows b i - r) r (omega arith);
-              lie = rw e at first-inside;
+              lie = rw e at (first-inside b i h (a .buffers));
             }
         go w Nested64 e is.Nests.nested64 =
             let bad : badOffsets 8 (rows b (child i)) b i ≡ false = content-right Nested64 e in
             record {
               rise = offsets-rise 8 _ bad;
               inside = λ r l. offset-below 8 _ bad (rows b i - r) r (omega arith);
-              lie = rw e at first-inside;
+              lie = rw e at (first-inside b i h (a .buffers));
             }
 
     -- kind 6
+    module _ (r : ℕ) (f : badView b i r ≡ false) where
+      long-right : 12 < viewField 0 b i r → badLong b i r ≡ false
+      unfolding badView
+      long-right m = rw (lt-ltb 12 (viewField 0 b i r) m) at (or-right (negative 4 (viewField 0 b i r)) _ f)
+
+      short-right : viewField 0 b i r ≤ 12 → badShort b i r ≡ false
+      unfolding badView
+      short-right m = rw (le-ltb 12 (viewField 0 b i r) m) at (or-right (negative 4 (viewField 0 b i r)) _ f)
+
+      view-right : ViewLies b i r
+      unfolding badView badLong badShort negative
+      view-right =
+          record {
+            short = leb-false _ _ (or-left _ _ f);
+            names = λ m. leb-false _ _ (or-left _ _ (or-left _ _ (long-right m)));
+            inside = λ m. ltb-false _ _ (or-right (leb (kids b i) (viewField 2 b i r)) _ (or-left _ _ (long-right m)));
+            prefix =
+                λ m. eqb-true _ _
+                (not-false _
+                (or-right (leb (kids b i) (viewField 2 b i r) || ltb (rows b (dataBuffer i (viewField 2 b i r))) (viewField 3 b i r + viewField 0 b i r)) _ (long-right m)));
+            unused =
+                λ k m n. eqb-true _ _
+                (not-false _
+                (and-right (leb (viewField 0 b i r) k) _
+                (any-none (λ k. leb (viewField 0 b i r) k && not (eqb (getD b (firstAt b i + 16 * (skip b i + r) + 4 + k) 0) 0)) 12 k n (short-right (omega arith)))
+                (le-leb (viewField 0 b i r) k m)));
+          }
+
     view-lies : (r : ℕ) → kind b i ≡ Views → r < rows b i → ViewLies b i r
-    unfolding badContent badView negative
-    view-lies r e l =
-        let f : badView b i r ≡ false = any-none (badView b i) (rows b i) r l (content-right Views e) in
-        record {
-          short = leb-false _ _ (or-left _ _ f);
-          names = λ m. leb-false _ _ (or-left _ _ (range m f));
-          inside = λ m. ltb-false _ _ (or-right (leb (kids b i) (viewField 2 b i r)) _ (range m f));
-        }
-      where
-        range : 12 < viewField 0 b i r
-            → (leb (2 ^ 31) (viewField 0 b i r) || ltb 12 (viewField 0 b i r) && (leb (kids b i) (viewField 2 b i r) || ltb (rows b (dataBuffer i (viewField 2 b i r))) (viewField 3 b i r + viewField 0 b i r))) ≡ false
-            → (leb (kids b i) (viewField 2 b i r) || ltb (rows b (dataBuffer i (viewField 2 b i r))) (viewField 3 b i r + viewField 0 b i r)) ≡ false
-        range m f = and-right (ltb 12 (viewField 0 b i r)) _ (or-right (leb (2 ^ 31) (viewField 0 b i r)) _ f) (lt-ltb 12 (viewField 0 b i r) m)
+    unfolding badContent
+    view-lies r e l = view-right r (any-none (badView b i) (rows b i) r l (content-right Views e))
 
     -- kinds 7 and 8
     module _ (w r : ℕ) (bad : badRange w b i r ≡ false) where
@@ -447,13 +520,13 @@ module _ (b : List ℕ) (a : Accepted b) where
     unfolding badContent badRuns negative
     run-ends e =
         record {
-          width = rw e at params-right;
+          width = rw e at (params-right b i h (a .fields));
           rise = λ j l. leb-false _ _ (or-right (leb (2 ^ (8 * param b i - 1)) (runEnd b i j)) _ (run-right e j l));
           small = λ j l. leb-false _ _ (or-left _ _ (run-right e j l));
           cover =
               ltb-false _ _
               (or-right (anyBelow (λ j. leb (2 ^ (8 * param b i - 1)) (runEnd b i j) || leb (runEnd b i j) (runStart b i j)) (rows b (child i))) _ (content-right Runs e));
-          lie = rw e at first-inside;
+          lie = rw e at (first-inside b i h (a .buffers));
         }
 
     -- kinds 11 and 12
@@ -472,10 +545,10 @@ module _ (b : List ℕ) (a : Accepted b) where
     -- the one child
     module _ (o : OneChild (kind b i)) where
       one-kid : ancestors b (suc i) ≡ ancestor i 1 ∷ oneLess (ancestors b i)
-      one-kid = opens b i 0 (one-child o (kids b i) kids-right)
+      one-kid = opens b i 0 (one-child o (kids b i) (kids-right b i h (a .fields)))
 
       child-inside : child i < nodeCount b
-      child-inside = goes-on (suc i) i 1 (oneLess (ancestors b i)) h one-kid
+      child-inside = goes-on b (a .tree) (suc i) i 1 (oneLess (ancestors b i)) h one-kid
 
       child-under : parent b (child i) ≡ i
       child-under = innermost-is b (suc i) i 1 (oneLess (ancestors b i)) one-kid
@@ -496,12 +569,12 @@ module _ (b : List ℕ) (a : Accepted b) where
     above-inner : Inner (kind b (parent b i))
     unfolding parent
     above-inner =
-        inner-of (kind b (parent b i)) (kids b (parent b i)) (fields-are (parent b i) parent-inside .known) (kids-right (parent b i) parent-inside)
+        inner-of (kind b (parent b i)) (kids b (parent b i)) (fields-are (parent b i) parent-inside .known) (kids-right b (parent b i) parent-inside (a .fields))
         (some-kid b i (ancestors b i) (stack b i) open-above)
 
     above-only : OneChild (kind b (parent b i)) → i ≡ suc (parent b i)
     unfolding parent
-    above-only o = only-kid b i (ancestors b i) (stack b i) open-above (one-child o (kids b (parent b i)) (kids-right (parent b i) parent-inside))
+    above-only o = only-kid b i (ancestors b i) (stack b i) open-above (one-child o (kids b (parent b i)) (kids-right b (parent b i) parent-inside (a .fields)))
 
     rows-same : Shares (kind b (parent b i)) → rows b i ≡ rows b (parent b i)
     unfolding wrongRows badChildRows
@@ -509,55 +582,6 @@ module _ (b : List ℕ) (a : Accepted b) where
         let e : badChildRows b i ≡ false =
         below-root (badChildRows b) (nodeCount b) i some h (or-right (anyBelow (λ i. ltb 1_048_576 (places b i)) (nodeCount b) || not (eqb (rootRows b) (rows b 0))) _ (a .rowed)) in
         eqb-true _ _ (not-false _ (and-right (ofKind 10 b (parent b i) || ofKind 11 b (parent b i)) _ e (shares-number b (parent b i) s)))
-
-    -- a child of views
-    data-buffer : kind b (parent b i) ≡ Views → (ofKind 2 b i && eqb (param b i) 1 && hasNoBitmap b i) ≡ true
-    unfolding wrongTree badDataBuffer
-    data-buffer e =
-        not-false _
-        (and-right (ofKind 6 b (parent b i)) _ (below-root (badDataBuffer b) (nodeCount b) i some h (or-right (notClosed b || anyBelow (λ i. ltb 8 (depth b i)) (nodeCount b)) _ (a .tree)))
-        (views-number b (parent b i) e))
-
-  -- the data buffers of a views node: each has no child, so they stand side by side
-  module _ (j : ℕ) (some : 0 < j) (l : j < nodeCount b) (e : kind b (parent b j) ≡ Views) where
-    buffer-native : kind b j ≡ Native
-    unfolding ofKind kindOf
-    buffer-native = kind-number b j 2 (eqb-true _ _ (and-first _ _ (and-first _ _ (data-buffer j some l e))))
-
-    buffer-width : param b j ≡ 1
-    buffer-width = eqb-true _ _ (and-second (ofKind 2 b j) _ (and-first _ _ (data-buffer j some l e)))
-
-    buffer-unmarked : validityAt b j ≡ noBitmap
-    unfolding hasNoBitmap
-    buffer-unmarked = eqb-true _ _ (and-second (ofKind 2 b j && eqb (param b j) 1) _ (data-buffer j some l e))
-
-    buffer-childless : kids b j ≡ 0
-    buffer-childless = eqb-true _ _ (rw buffer-native at (kids-right j l))
-
-  module _ (i : ℕ) (h : i < nodeCount b) (v : kind b i ≡ Views) where
-    data-open : (k d : ℕ) → suc k + d ≡ kids b i → (ancestors b (dataBuffer i k) ≡ ancestor i (suc d) ∷ oneLess (ancestors b i)) × (dataBuffer i k < nodeCount b)
-    data-open zero d e =
-        let q : ancestors b (suc (i + 0)) ≡ ancestor i (suc d) ∷ oneLess (ancestors b i) = rw (add-zero i) (opens b i d (omega arith)) in
-        (q, goes-on (suc (i + 0)) i (suc d) _ (omega arith) q)
-    data-open (suc k) d e =
-        let (f, l) = data-open k (suc d) (omega arith) in
-        let p : parent b (suc (i + k)) ≡ i = innermost-is b (suc (i + k)) i (suc (suc d)) _ f in
-        let q : ancestors b (suc (i + suc k)) ≡ ancestor i (suc d) ∷ oneLess (ancestors b i) =
-        rw (add-suc i k) (passes b i (suc (i + k)) d _ (buffer-childless (suc (i + k)) (omega arith) l (rw p v)) f) in
-        (q, goes-on (suc (i + suc k)) i (suc d) _ (omega arith) q)
-
-    data-buffers : (k : ℕ) → k < kids b i → DataBuffer b i k
-    data-buffers k m =
-        let (f, l) = data-open k (kids b i - suc k) (omega arith) in
-        let p : parent b (dataBuffer i k) ≡ i = innermost-is b (dataBuffer i k) i _ _ f in
-        let e : kind b (parent b (dataBuffer i k)) ≡ Views = rw p v in
-        record {
-          inside = l;
-          under = p;
-          plain = buffer-native (dataBuffer i k) (omega arith) l e;
-          width = buffer-width (dataBuffer i k) (omega arith) l e;
-          unmarked = buffer-unmarked (dataBuffer i k) (omega arith) l e;
-        }
 
   root-rows : rootRows b ≡ rows b 0
   unfolding wrongRows
@@ -567,23 +591,23 @@ module _ (b : List ℕ) (a : Accepted b) where
   shape =
       record {
         small = few-bytes;
-        some = some-nodes;
-        few = few-nodes;
-        table = table-place;
+        some = some-nodes b (a .tabled);
+        few = few-nodes b (a .tabled);
+        table = table-place b (a .tabled);
         shallow = shallow;
         above = above;
         inner = above-inner;
         only = above-only;
         next = child-inside;
         under = child-under;
-        buffers = λ i k h v l. data-buffers i h v k l;
+        buffers = λ i k h v l. data-buffers b (a .fields) (a .tree) i h v k l;
       }
 
   all-sound : Sound b
   all-sound =
       record {
         shape = shape;
-        agree = record { limit = places-few; root = root-rows; same = rows-same };
+        agree = record { limit = λ i h. places-few b i h (a .rowed); root = root-rows; same = rows-same };
         fields = fields-are;
         inBody = in-body;
         offsets32 = offsets32-are;

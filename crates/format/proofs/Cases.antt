@@ -1,5 +1,5 @@
 -- The bench cases marked P, and each refusal's example, as one table proved by one statement, by computation (docs/FORMAT.md, 4, 6, 8 and 11). Assumes nothing.
-use Prim.Native.Nat.{ℕ, suc}
+use Prim.Native.Nat.{ℕ, suc, _-_}
 use mathlib.Core.Path.{_≡_, refl, ap₂}
 use mathlib.Core.Bool.{Bool, true, false, _&&_, false≢true, and-eq-true-iff}
 use mathlib.Core.List.{List, [], _∷_, _++_, map}
@@ -13,7 +13,7 @@ use Rattle.format.specs.declared.Pack.the-variants.{Mask, Journal}
 use Rattle.format.specs.declared.Answer.{Answer}
 use Rattle.format.specs.declared.Answer.the-variants.{Done, Refused}
 use Rattle.format.specs.Bytes as Bytes
-use Rattle.format.specs.Bytes.{join, padded, one}
+use Rattle.format.specs.Bytes.{table, join, padded, one}
 use Rattle.format.specs.Words as Words
 use Rattle.format.specs.Words.{compress}
 use Rattle.format.specs.Node as Node
@@ -58,6 +58,24 @@ listsOf : ℕ → List ℕ → List ℕ → List ℕ
 listsOf rows offsets values =
     pack (padded (numbers 4 offsets) ++ numbers 4 values)
     (node 13 0 rows 0 1 noBitmap 0 ∷ node 2 4 (length values) 0 0 noBitmap (length (padded (numbers 4 offsets))) ∷ []) rows
+
+-- views, the first `skip` of them passed over, with one data buffer of the bytes 1 to 16; behind it a byte that may be their bitmap, and says that all are null
+viewsOf : ℕ → ℕ → List (List ℕ) → List ℕ
+viewsOf validity skip views =
+    let n = length views - skip in
+    let at = length (join views) in
+    pack (join views ++ table suc 16 ++ (0 ∷ [])) (node 6 0 n skip 1 validity 0 ∷ node 2 1 16 0 0 noBitmap at ∷ []) n
+
+viewsKept : List (List ℕ) → List ℕ
+viewsKept views =
+    pack (join views ++ table suc 16) (node 6 0 (length views) 0 1 noBitmap 0 ∷ node 2 1 16 0 0 noBitmap (length (join views)) ∷ []) (length views)
+
+-- a long view of the 13 bytes from the third on, and a short one of 3 bytes, by its last byte
+long : List ℕ → List ℕ
+long prefix = numbers 4 (13 ∷ []) ++ prefix ++ numbers 4 (0 ∷ 2 ∷ [])
+
+short : ℕ → List ℕ
+short last = numbers 4 (3 ∷ []) ++ (7 ∷ 8 ∷ 9 ∷ []) ++ replicate 8 0 ++ (last ∷ [])
 
 -- a call; and one with no stated count and no list, two bytes of scratch and so many of output
 unfoldable pub call : List ℕ → List ℕ → Stated → Bool → List ℕ → List ℕ → List ℕ → Call
@@ -181,6 +199,9 @@ bench =
     -- lists: the child rows of kept rows, with offsets from 0; under a null row none
     ∷ keeps 2 3 Indices (maskOf 3 0x05) (listsOf 3 (1 ∷ 3 ∷ 4 ∷ 5 ∷ []) (9 ∷ 10 ∷ 11 ∷ 12 ∷ 13 ∷ 14 ∷ [])) (listsOf 2 (0 ∷ 2 ∷ 3 ∷ []) (10 ∷ 11 ∷ 13 ∷ [])) (0 ∷ 9 ∷ [])
     ∷ keeps 2 3 Indices (maskOf 3 0x03) nullList nullListKept (0 ∷ 9 ∷ [])
+    -- views: the prefix is the first four data bytes, the unused bytes are zero; a view before skip may be anything
+    ∷ keeps 1 2 Indices (maskOf 2 0x01) (viewsOf noBitmap 1 (long (0 ∷ 0 ∷ 0 ∷ 0 ∷ []) ∷ long (3 ∷ 4 ∷ 5 ∷ 6 ∷ []) ∷ short 0 ∷ [])) (viewsKept (long (3 ∷ 4 ∷ 5 ∷ 6 ∷ []) ∷ [])) untouched
+    ∷ keeps 1 2 Indices (maskOf 2 0x02) (viewsOf noBitmap 1 (short 1 ∷ long (3 ∷ 4 ∷ 5 ∷ 6 ∷ []) ∷ short 0 ∷ [])) (viewsKept (short 0 ∷ [])) untouched
     -- offsets are rebuilt from 0, not from the source's first
     ∷ keeps 2 3 Indices (maskOf 3 0x05) (texts 3 (1 ∷ 3 ∷ 3 ∷ 6 ∷ []) (0x78 ∷ abcde)) (texts 2 (0 ∷ 2 ∷ 5 ∷ []) abcde) untouched
     ∷ []
@@ -196,6 +217,12 @@ refusals =
     ∷ refusal 7 Journal (plain 99 (maskOf 3 5) (pack (replicate 8 0) (node 2 4 3 0 0 noBitmap 0 ∷ []) 3))
     ∷ refusal 8 Journal (plain 99 (maskOf 2 1) (texts 2 (0 ∷ 3 ∷ 2 ∷ []) abcde))
     ∷ refusal 8 Journal (plain 99 (maskOf 2 1) (listsOf 2 (0 ∷ 1 ∷ 3 ∷ []) (7 ∷ 8 ∷ [])))
+    -- an untrue prefix, by its first byte or its last; an unused byte that is not zero; the same of a null row, and of rows that are not picked
+    ∷ refusal 8 Journal (plain 99 (maskOf 1 0x01) (viewsOf noBitmap 0 (long (2 ∷ 4 ∷ 5 ∷ 6 ∷ []) ∷ [])))
+    ∷ refusal 8 Journal (plain 99 (maskOf 1 0x01) (viewsOf noBitmap 0 (long (3 ∷ 4 ∷ 5 ∷ 7 ∷ []) ∷ [])))
+    ∷ refusal 8 Journal (plain 99 (maskOf 1 0x01) (viewsOf noBitmap 0 (short 1 ∷ [])))
+    ∷ refusal 8 Journal (plain 99 (maskOf 1 0x00) (viewsOf 32 0 (long (2 ∷ 4 ∷ 5 ∷ 6 ∷ []) ∷ [])))
+    ∷ refusal 8 Journal (plain 99 (maskOf 1 0x00) (viewsOf 32 0 (short 1 ∷ [])))
     ∷ refusal 9 Mask (plain 99 five five)
     ∷ refusal 10 Journal (plain 99 (maskOf 6 9) five)
     ∷ refusal 11 Mask (call withNull [] (stated 3) false [] [] [])
@@ -226,7 +253,7 @@ same-is t h (x ∷ xs) (y ∷ ys) e =
     ap₂ _∷_ (h x y (both .0)) (same-is t h xs ys (both .1))
 
 test : same (same (same eqb)) (map (λ (c : Case). c .found) cases) (map (λ (c : Case). c .expected) cases) ≡ true
-unfolding Bytes.opened Words.opened Node.opened Verdict.opened Masks.opened Kept.opened Write.opened Refusals.opened Answers.opened pack node maskOf natives texts runsOf listsOf call plain outcome case refusal keeps untouched five p1 withNull nullInside nullList nullListKept abcde listed sliced bench refusals cases routeNumber packNumber inNumbers same
+unfolding Bytes.opened Words.opened Node.opened Verdict.opened Masks.opened Kept.opened Write.opened Refusals.opened Answers.opened pack node maskOf natives texts runsOf listsOf viewsOf viewsKept long short call plain outcome case refusal keeps untouched five p1 withNull nullInside nullList nullListKept abcde listed sliced bench refusals cases routeNumber packNumber inNumbers same
 test = refl
 
 -- the one statement

@@ -4,13 +4,13 @@ use Prim.Native.Nat.{ℕ, suc, _+_, _*_, _^_, _-_, _<_, _≤_}
 use mathlib.Core.Bool.{true, false}
 use mathlib.Core.List.{List, [], _∷_}
 use mathlib.Core.Path.{_≡_}
-use lib.ListN.{length}
+use lib.ListN.{length, getD}
 use Rattle.format.specs.declared.Kind.{Kind}
 use Rattle.format.specs.declared.Kind.the-variants.{Bits, Native, Bytes32, Bytes64, Views, Lists32, Lists64, Runs, Struct, Union, Dictionary, Nested32, Nested64, Unknown}
-use Rattle.format.specs.Bytes.{bytesFor}
-use Rattle.format.specs.Node.{tableStart, nodeCount, rootRows, param, rows, kids, validityAt, noBitmap, firstAt, secondAt, secondLength}
+use Rattle.format.specs.Bytes.{bytesFor, le}
+use Rattle.format.specs.Node.{tableStart, nodeCount, rootRows, param, rows, skip, kids, validityAt, noBitmap, firstAt, secondAt, secondLength}
 use Rattle.format.specs.Node.{kind, places, hasNoBitmap, valid, firstNumber, secondNumber, runEnd, runStart, parent, depth, child, dataBuffer}
-use Rattle.format.specs.Verdict.{packLimit, oneOf, layout, firstSize, secondSize, viewField}
+use Rattle.format.specs.Verdict.{packLimit, oneOf, layout, firstSize, secondSize, viewField, viewData}
 
 -- the kinds that have one child: list views, runs, dictionary, lists
 pub data OneChild : Kind → Type 0 where
@@ -100,11 +100,13 @@ pub record Spans (w : ℕ) (b : List ℕ) (i : ℕ) : Type 0 where
   pub inside : (r : ℕ) → r ≤ rows b i → firstNumber w b i r ≤ rows b (child i)
   pub lie : firstAt b i + w * suc (places b i) ≤ tableStart b
 
--- views (8): above 12 bytes the range lies in the child that the view names
+-- views (8): above 12 bytes the range lies in the child that the view names and the prefix is true; up to 12 the unused bytes are zero
 pub record ViewLies (b : List ℕ) (i r : ℕ) : Type 0 where
   pub short : viewField 0 b i r < 2 ^ 31
   pub names : 12 < viewField 0 b i r → viewField 2 b i r < kids b i
   pub inside : 12 < viewField 0 b i r → viewField 3 b i r + viewField 0 b i r ≤ rows b (dataBuffer i (viewField 2 b i r))
+  pub prefix : 12 < viewField 0 b i r → viewField 1 b i r ≡ le 4 b (viewData b i r)
+  pub unused : (k : ℕ) → viewField 0 b i r ≤ k → k < 12 → getD b (firstAt b i + 16 * (skip b i + r) + 4 + k) 0 ≡ 0
 
 -- run ends (8): param is their width; they rise, and the last covers skip + rows
 pub record RunEnds (b : List ℕ) (i : ℕ) : Type 0 where

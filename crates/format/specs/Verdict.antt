@@ -1,9 +1,9 @@
 -- When a pack is refused: conditions 1 to 8, and 9 for a mask (docs/FORMAT.md, 5 and 11). Each condition speaks of all nodes. Assumes nothing.
 use Prim.Native.Nat.{ℕ, suc, _+_, _*_}
-use mathlib.Core.Bool.{Bool, true, false, not, _&&_, _||_}
+use mathlib.Core.Bool.{Bool, true, false, cond, not, _&&_, _||_}
 use mathlib.Core.List.{List, [], _∷_, _++_}
 use lib.Dec.{eqb, leb, ltb}
-use lib.ListN.{length}
+use lib.ListN.{length, getD}
 use Rattle.format.specs.declared.Kind.{Kind}
 use Rattle.format.specs.declared.Kind.the-variants.{Bits, Native, Fixed, Bytes32, Bytes64, Views, Lists32, Lists64, Runs, Struct, Union, Dictionary, Nested32, Nested64, Unknown}
 use Rattle.format.specs.Bytes.{le, anyBelow, negative, bytesFor}
@@ -175,13 +175,27 @@ badOffsets w size b i =
 unfoldable pub viewField : ℕ → List ℕ → ℕ → ℕ → ℕ
 viewField k b i r = le 4 b (firstAt b i + 16 * (skip b i + r) + 4 * k)
 
--- a view's length is at least 0; above 12, its range lies in the child that it names
+-- where the bytes of a long view start, in the child that it names
+unfoldable pub viewData : List ℕ → ℕ → ℕ → ℕ
+viewData b i r =
+    let d = dataBuffer i (viewField 2 b i r) in
+    firstAt b d + skip b d + viewField 3 b i r
+
+-- a long view, above 12: its range lies in the child that it names, and its prefix is the first four data bytes
+unfoldable pub badLong : List ℕ → ℕ → ℕ → Bool
+badLong b i r =
+    leb (kids b i) (viewField 2 b i r)
+    || ltb (rows b (dataBuffer i (viewField 2 b i r))) (viewField 3 b i r + viewField 0 b i r)
+    || not (eqb (viewField 1 b i r) (le 4 b (viewData b i r)))
+
+-- a short view, up to 12: of the 12 bytes behind the length, those past it are zero
+unfoldable pub badShort : List ℕ → ℕ → ℕ → Bool
+badShort b i r =
+    anyBelow (λ k. leb (viewField 0 b i r) k && not (eqb (getD b (firstAt b i + 16 * (skip b i + r) + 4 + k) 0) 0)) 12
+
+-- a view's length is at least 0; it is right as a long one, or as a short one
 unfoldable pub badView : List ℕ → ℕ → ℕ → Bool
-badView b i r =
-    negative 4 (viewField 0 b i r)
-    || ltb 12 (viewField 0 b i r)
-    && (leb (kids b i) (viewField 2 b i r)
-    || ltb (rows b (dataBuffer i (viewField 2 b i r))) (viewField 3 b i r + viewField 0 b i r))
+badView b i r = negative 4 (viewField 0 b i r) || cond (ltb 12 (viewField 0 b i r)) (badLong b i r) (badShort b i r)
 
 -- a list view's range lies in the child, null or not
 unfoldable pub badRange : ℕ → List ℕ → ℕ → ℕ → Bool
@@ -249,5 +263,5 @@ maskVerdict b = firstOf 1 (conditions b ++ (wrongRoot b ∷ []))
 
 -- to unfold `opened` is to unfold all of this module
 unfoldable pub opened : Unit {0}
-unfolding wrongSize wrongMark wrongTable oneOf misused badFields wrongFields empty notClosed badDataBuffer wrongTree badChildRows wrongRows badBuffers wrongBuffers badOffsets viewField badView badRange badRuns badContent wrongContent wrongRoot conditions firstOf journalVerdict maskVerdict
+unfolding wrongSize wrongMark wrongTable oneOf misused badFields wrongFields empty notClosed badDataBuffer wrongTree badChildRows wrongRows badBuffers wrongBuffers badOffsets viewField viewData badLong badShort badView badRange badRuns badContent wrongContent wrongRoot conditions firstOf journalVerdict maskVerdict
 opened = tt

@@ -1,26 +1,27 @@
 -- Refusal 8 is false of an extract: rebuilt offsets and run ends rise as they must, and what is copied from an accepted row is as right as it was. Assumes nothing.
 use Prim.Native.Nat.{ℕ, zero, suc, _+_, _-_, _*_, _^_, _≤_, _<_}
 use mathlib.Core.Path.{_≡_, refl, sym, ap, _∙_}
-use mathlib.Core.Bool.{Bool, true, false, _&&_, _||_, and-false}
+use mathlib.Core.Bool.{Bool, true, false, cond, not, _&&_, and-false}
 use mathlib.Core.List.{List, [], _∷_, map}
-use native.Mathlib.Nat.{add-zero, one-le-pow}
-use native.Mathlib.Decide.{decLt}
+use native.Mathlib.Nat.{add-zero, add-assoc, one-le-pow}
+use native.Mathlib.Decide.{decLt, decLe}
 use native.Mathlib.Omega.{arith}
-use borrow.Author.Tests.{le-ltb, lt-leb}
-use lib.Dec.{leb, ltb, lit<}
+use borrow.Author.Tests.{le-ltb, lt-ltb, lt-leb, eq-eqb}
+use lib.Dec.{eqb, leb, ltb, lit<}
 use lib.ListN.{length, getD, length-map}
 use Rattle.format.specs.declared.Kind.{Kind}
 use Rattle.format.specs.declared.Kind.the-variants.{Bits, Native, Fixed, Bytes32, Bytes64, Views, Lists32, Lists64, Runs, Struct, Union, Dictionary, Nested32, Nested64, Unknown}
-use Rattle.format.specs.Bytes.{anyBelow, le, negative, join, bytesAt}
+use Rattle.format.specs.Bytes.{table, anyBelow, le, negative, join, bytesAt}
 use Rattle.format.specs.Node.{tableStart, nodeCount, kind, param, rows, skip, kids, firstAt, secondAt, secondLength, valid, places, parent, child, dataBuffer, firstNumber, secondNumber, runEnd, runStart}
-use Rattle.format.specs.Verdict.{packLimit, wrongContent, badContent, badOffsets, badView, badRange, badRuns, viewField}
+use Rattle.format.specs.Verdict.{packLimit, wrongContent, badContent, badOffsets, badView, badLong, badShort, badRange, badRuns, viewField, viewData}
 use Rattle.format.specs.Kept.{texts, columns, cells, keptPart, keptRows, keptRuns, groupSize, carried, firstEntry, secondEntry, ownBytes}
 use Rattle.format.specs.Write.{holds, total, first, second, dataLength, extract}
-use Rattle.format.specs.Accepted.{OneChild, Carries, Nests, ViewLies}
+use Rattle.format.specs.Accepted.{OneChild, Carries, Nests, DataBuffer, ViewLies}
 use Rattle.format.specs.Accepted as is
-use Rattle.format.proofs.Laws.{none-any, length-table}
+use Rattle.format.proofs.Laws.{none-any, length-table, getD-table}
+use Rattle.format.proofs.Numbers.{sum-ext}
 use Rattle.roundtrip.specs.Back.{Extracted}
-use Rattle.roundtrip.proofs.Parts.{getD-map, le-part, total-join, total-more}
+use Rattle.roundtrip.proofs.Parts.{getD-map, getD-part, le-part, total-join, total-more}
 use Rattle.roundtrip.proofs.Cells.{total-mono, offset-back, data-short}
 use Rattle.roundtrip.proofs.Rows.{kept-carried, kept-below, some-shared}
 use Rattle.roundtrip.proofs.Again.{facts, fits, inside, same-kind, same-param, same-kids, rows-kept, valid-again, values-are, first-again, second-again, first-fits, second-fits, sizes, run-count, run-end, run-start, total-kept, lengths, child-count, child-few, list-offset}
@@ -37,6 +38,23 @@ entry-number w b i r = number-of w b (firstAt b i + w * (skip b i + r))
 second-number : (w : ℕ) (b : List ℕ) (i r : ℕ) → secondNumber w b i r ≡ le w (secondEntry w b i r) 0
 unfolding secondNumber secondEntry
 second-number w b i r = number-of w b (secondAt b i + w * (skip b i + r))
+
+-- a byte behind a view's length, and a byte of a data buffer
+view-byte : (k : ℕ) (b : List ℕ) (i r : ℕ) → k < 12 → getD b (firstAt b i + 16 * (skip b i + r) + 4 + k) 0 ≡ getD (firstEntry 16 b i r) (4 + k) 0
+unfolding firstEntry
+view-byte k b i r h =
+    ap (λ (n : ℕ). getD b n 0) (add-assoc (firstAt b i + 16 * (skip b i + r)) 4 k) ∙ sym (getD-part b (firstAt b i + 16 * (skip b i + r)) 16 (4 + k) (omega arith))
+
+data-entry : (b : List ℕ) (d k : ℕ) → getD b (firstAt b d + skip b d + k) 0 ≡ getD (firstEntry 1 b d k) 0 0
+unfolding firstEntry
+data-entry b d k =
+    let at : firstAt b d + skip b d + k ≡ firstAt b d + 1 * (skip b d + k) + 0 = omega arith in
+    ap (λ (n : ℕ). getD b n 0) at ∙ sym (getD-part b (firstAt b d + 1 * (skip b d + k)) 1 0 (lit< tt))
+
+-- four bytes that are the same are one number
+same-number : (a b : List ℕ) (at place : ℕ) → ((j : ℕ) → j < 4 → getD a (at + j) 0 ≡ getD b (place + j) 0) → le 4 a at ≡ le 4 b place
+unfolding le
+same-number a b at place h = sum-ext _ _ 4 (λ j l. ap (_* 256 ^ j) (h j l))
 
 view-field : (k : ℕ) (b : List ℕ) (i r : ℕ) → k < 4 → viewField k b i r ≡ le 4 (firstEntry 16 b i r) (4 * k)
 unfolding viewField firstEntry
@@ -55,6 +73,25 @@ module _ {b rs : List ℕ} (x : Extracted b rs) where
   unfolding carried
   carried-some [] n r h = absurd (omega arith)
   carried-some (y ∷ ys) n r h = length-table (λ k. k) n
+
+  carried-all : (rs : List ℕ) (n r : ℕ) → r < length rs → carried rs n ≡ table (λ k. k) n
+  unfolding carried
+  carried-all [] n r h = absurd (omega arith)
+  carried-all (y ∷ ys) n r h = refl
+
+  -- a data buffer that is carried has the bytes that it had
+  data-byte : (d k : ℕ) (l : d < nodeCount b) → kind b d ≡ Native → param b d ≡ 1 → keptRows b rs d ≡ table (λ k. k) (rows b d) → k < rows b d
+      → getD e (firstAt e d + skip e d + k) 0 ≡ getD b (firstAt b d + skip b d + k) 0
+  unfolding cells first
+  data-byte d k l q p whole m =
+      let n : k < length (keptRows b rs d) = rw (whole, length-table (λ (k : ℕ). k) (rows b d)) m in
+      let fit : firstAt b d + 1 * places b d ≤ tableStart b = rw p at (first-fits x d l Native q) in
+      let held : first (cells Native b d (keptRows b rs d)) ≡ holds (join (map (firstEntry 1 b d) (keptRows b rs d))) = rw p in
+      let same : getD (keptRows b rs d) k 0 ≡ k = ap (λ (ks : List ℕ). getD ks k 0) whole ∙ getD-table (λ k. k) (rows b d) k 0 m in
+      data-entry e d k
+      ∙ ap (λ (y : List ℕ). getD y 0 0)
+      (first-again x d l 1 _ (values-are x d l Native q) fit held k n ∙ getD-map (firstEntry 1 b d) (keptRows b rs d) k 0 [] n ∙ ap (firstEntry 1 b d) same)
+      ∙ sym (data-entry b d k)
 
   carried-whole : (i c r : ℕ) → 0 < c → c < nodeCount b → parent b c ≡ i → Carries (kind b i) → r < length (keptRows b rs i) → rows e c ≡ rows b c
   carried-whole i c r h m p k l =
@@ -164,25 +201,64 @@ module _ {b rs : List ℕ} (x : Extracted b rs) where
       lies : ViewLies b i (from r)
       lies = facts x .views i (from r) l q (from-below r m)
 
+      byte-copied : (k : ℕ) → k < 12 → getD e (firstAt e i + 16 * (skip e i + r) + 4 + k) 0 ≡ getD b (firstAt b i + 16 * (skip b i + from r) + 4 + k) 0
+      unfolding cells first
+      byte-copied k h =
+          view-byte k e i r h ∙ ap (λ (y : List ℕ). getD y (4 + k) 0) (entry-copied 16 Views q r m (first-fits x i l Views q) refl) ∙ sym (view-byte k b i (from r) h)
+
+      car : Carries (kind b i)
+      car = rw q is.Carries.views
+
+      -- a long view: its data buffer is carried, and so the prefix is as true as it was
+      module _ (long : 12 < viewField 0 b i (from r)) where
+        buffer : ℕ
+        buffer = dataBuffer i (viewField 2 b i (from r))
+
+        is-buffer : DataBuffer b i (viewField 2 b i (from r))
+        is-buffer = facts x .shape .buffers i (viewField 2 b i (from r)) l q (lies .names long)
+
+        buffer-whole : keptRows b rs buffer ≡ table (λ k. k) (rows b buffer)
+        unfolding buffer
+        buffer-whole =
+            kept-carried b rs buffer (omega arith) (rw (is-buffer .under) car) ∙ carried-all (keptRows b rs (parent b buffer)) (rows b buffer) r (rw (is-buffer .under) m)
+
+        prefix-same : le 4 e (viewData e i r) ≡ le 4 b (viewData b i (from r))
+        unfolding viewData buffer
+        prefix-same =
+            rw (field-copied 2 (lit< tt), field-copied 3 (lit< tt))
+            (same-number e b _ _
+            (λ j h. ap (λ (n : ℕ). getD e n 0) (add-assoc _ (viewField 3 b i (from r)) j)
+            ∙ data-byte buffer (viewField 3 b i (from r) + j) (is-buffer .inside) (is-buffer .plain) (is-buffer .width) buffer-whole (omega (arith, lies .inside long))
+            ∙ ap (λ (n : ℕ). getD b n 0) (sym (add-assoc _ (viewField 3 b i (from r)) j))))
+
+        long-right : badLong e i r ≡ false
+        unfolding badLong buffer
+        long-right =
+            rw (field-copied 0 (lit< tt), field-copied 1 (lit< tt), field-copied 2 (lit< tt), field-copied 3 (lit< tt), same-kids x i l, prefix-same)
+            (or-none
+            (or-none (lt-leb (kids b i) _ (lies .names long))
+            (rw (carried-whole i buffer r (omega arith) (is-buffer .inside) (is-buffer .under) car m) (le-ltb (rows b buffer) _ (lies .inside long))))
+            (ap not (eq-eqb _ _ (lies .prefix long))))
+
+      short-right : badShort e i r ≡ false
+      unfolding badShort
+      short-right =
+          rw (field-copied 0 (lit< tt))
+          (none-any _ 12 (λ k h. rw (byte-copied k h) (go k h (decLe (viewField 0 b i (from r)) k))))
+        where
+          go : (k : ℕ) → k < 12 → Dec (viewField 0 b i (from r) ≤ k)
+              → (leb (viewField 0 b i (from r)) k && not (eqb (getD b (firstAt b i + 16 * (skip b i + from r) + 4 + k) 0) 0)) ≡ false
+          go k h (yes a) = rw (eq-eqb _ 0 (lies .unused k a h)) (and-false (leb (viewField 0 b i (from r)) k))
+          go k h (no a) = rw (lt-leb (viewField 0 b i (from r)) k (omega arith))
+
       view-right : badView e i r ≡ false
       unfolding badView
       view-right =
-          rw (field-copied 0 (lit< tt), field-copied 2 (lit< tt), field-copied 3 (lit< tt), same-kids x i l)
-          (or-none (positive 4 (viewField 0 b i (from r)) (lies .short)) (go (decLt 12 (viewField 0 b i (from r)))))
+          rw (field-copied 0 (lit< tt)) (or-none (positive 4 (viewField 0 b i (from r)) (lies .short)) (go (decLt 12 (viewField 0 b i (from r)))))
         where
-          buffer : ℕ
-          buffer = viewField 2 b i (from r)
-
-          go : Dec (12 < viewField 0 b i (from r))
-              → (ltb 12 (viewField 0 b i (from r)) && (leb (kids b i) buffer || ltb (rows e (dataBuffer i buffer)) (viewField 3 b i (from r) + viewField 0 b i (from r)))) ≡ false
-          go (yes d) =
-              let n = lies .names d in
-              let c = facts x .shape .buffers i buffer l q n in
-              let car : Carries (kind b i) = rw q is.Carries.views in
-              let fit = lies .inside d in
-              rw (lt-leb (kids b i) buffer n, carried-whole i (dataBuffer i buffer) r (omega arith) (c .inside) (c .under) car m, le-ltb (rows b (dataBuffer i buffer)) _ fit)
-              (and-false (ltb 12 (viewField 0 b i (from r))))
-          go (no d) = rw (le-ltb 12 (viewField 0 b i (from r)) (omega arith))
+          go : Dec (12 < viewField 0 b i (from r)) → cond (ltb 12 (viewField 0 b i (from r))) (badLong e i r) (badShort e i r) ≡ false
+          go (yes d) = rw (lt-ltb 12 (viewField 0 b i (from r)) d) (long-right d)
+          go (no d) = rw (le-ltb 12 (viewField 0 b i (from r)) (omega arith)) short-right
 
     -- list views copied
     range-right : (w : ℕ) (r : ℕ) → r < length kept → 1_048_576 < 2 ^ (8 * w - 1) → OneChild (kind b i) → Carries (kind b i)

@@ -365,7 +365,13 @@ fn list(seed: u64, count: u64, folder: &str) -> Tally {
 fn paper() -> Tally {
     let mut tally = Tally::default();
     let port = port();
-    for case in paper::bench().into_iter().chain(paper::refusals()).chain(paper::lists()).chain(paper::limits()) {
+    for case in paper::bench()
+        .into_iter()
+        .chain(paper::refusals())
+        .chain(paper::lists())
+        .chain(paper::true_views())
+        .chain(paper::limits())
+    {
         // the big ones are not for reading
         let shown: &[&[u8]] = if case.journal.len() < 5000 { &[&case.mask, &case.journal] } else { &[] };
         tally.case(case.name, shown, || compare::paper_case(&Model, &case));

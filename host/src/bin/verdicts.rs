@@ -2,9 +2,9 @@
 //!
 //!     verdicts [SEED COUNT]       needs the feature `port`
 //!
-//! Each case is a journal and a mask, each checked both ways, and the mask prepared with and without a list and a stated count.
+//! Each case is a journal, half of them damaged, and a mask, a fifth of them damaged, each checked both ways, and the mask prepared with and without a list and a stated count.
 //! The last line is 'N passed, M failed'.
-use host::make::{Rng, case};
+use host::make::{Rng, case, damage};
 use host::model;
 use host::port::{Linked, Port};
 use std::process::ExitCode;
@@ -27,7 +27,13 @@ fn prepared(r: &mut Rng, mask: &[u8]) -> Result<(), String> {
 }
 
 fn one(r: &mut Rng) -> Result<(), String> {
-    let (mask, journal) = case(r);
+    let (mut mask, mut journal) = case(r);
+    if r.percent(20) {
+        mask = damage(r, &mask);
+    }
+    if r.percent(50) {
+        journal = damage(r, &journal);
+    }
     for pack in [&mask, &journal] {
         let (a, b) = (model::check(pack), Linked.check(pack));
         if a != b {

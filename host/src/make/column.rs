@@ -234,20 +234,19 @@ impl<'a> Maker<'a> {
     }
 }
 
-/// A short view with any bytes after it, or a long one into a child, with any prefix.
+/// A short view, zeros behind its bytes, or a long one into a child, with its first four bytes there.
 fn view(r: &mut Rng, c: &Column) -> Vec<u8> {
-    let mut view = r.bytes(16);
     let long: Vec<usize> = (0..c.kids.len()).filter(|k| c.kids[*k].rows > 12).collect();
-    let length = if long.is_empty() || r.percent(50) {
-        r.below(13)
-    } else {
-        let k = r.pick(&long);
-        let length = 13 + r.below(c.kids[k].rows - 12);
-        let offset = r.below(c.kids[k].rows - length + 1);
-        view[8..12].copy_from_slice(&(k as u32).to_le_bytes());
-        view[12..].copy_from_slice(&(offset as u32).to_le_bytes());
-        length
-    };
-    view[..4].copy_from_slice(&(length as u32).to_le_bytes());
-    view
+    let number = |n: usize| (n as u32).to_le_bytes();
+    if long.is_empty() || r.percent(50) {
+        let length = r.below(13);
+        let mut view = [&number(length), r.bytes(length).as_slice()].concat();
+        view.resize(16, 0);
+        return view;
+    }
+    let k = r.pick(&long);
+    let length = 13 + r.below(c.kids[k].rows - 12);
+    let offset = r.below(c.kids[k].rows - length + 1);
+    let prefix = c.kids[k].entries[offset..offset + 4].concat();
+    [&number(length), prefix.as_slice(), &number(k), &number(offset)].concat()
 }

@@ -6,7 +6,7 @@ use crate::pack::*;
 pub fn damage(r: &mut Rng, pack: &[u8]) -> Vec<u8> {
     let mut pack = pack.to_vec();
     for _ in 0..r.pick(&[1, 1, 1, 2, 3]) {
-        match r.below(14) {
+        match r.below(15) {
             0 => return resize(r, pack),
             1 => {
                 let at = r.below(pack.len());
@@ -15,6 +15,7 @@ pub fn damage(r: &mut Rng, pack: &[u8]) -> Vec<u8> {
             2 => trailer(r, &mut pack),
             3..=5 => field(r, &mut pack),
             6..=8 => tree(r, &mut pack),
+            9 => view(r, &mut pack),
             _ => entry(r, &mut pack),
         }
     }
@@ -178,5 +179,29 @@ fn entry(r: &mut Rng, pack: &mut [u8]) {
             let new = (bound as u64).wrapping_add(r.pick(&[0, 1, u64::MAX]));
             pack[at..at + width].copy_from_slice(&new.to_le_bytes()[..width]);
         }
+    }
+}
+
+/// A bit of a view, or of the data bytes about a long one's start.
+fn view(r: &mut Rng, pack: &mut [u8]) {
+    let Some(read) = Pack::read(pack) else { return };
+    let views: Vec<usize> = (0..read.nodes.len()).filter(|i| read.nodes[*i].kind == VIEWS && read.nodes[*i].span() > 0).collect();
+    if views.is_empty() {
+        return;
+    }
+    let i = r.pick(&views);
+    let body = read.body.len();
+    let mut at = read.nodes[i].first as usize + 16 * r.below(read.nodes[i].span());
+    if at + 16 > body {
+        return;
+    }
+    let field = |k: usize| number(read.body, at + 4 * k, 4) as usize;
+    let data = read.nodes.get(i + 1 + field(2));
+    at = match data {
+        Some(data) if field(0) > 12 && r.percent(50) => data.first as usize + data.skip as usize + field(3) + r.below(5),
+        _ => at + r.below(16),
+    };
+    if at < body {
+        pack[at] ^= 1 << r.below(8);
     }
 }

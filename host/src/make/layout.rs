@@ -125,15 +125,16 @@ fn offsets_and_data(r: &mut Rng, c: &Column, width: usize) -> (Vec<u8>, Vec<u8>)
     (offsets, data)
 }
 
-/// Moves buffers that may hold anything to any place in the body, over others.
+/// Moves buffers that may hold anything to any place in the body, over others. Data buffers stay: their views hold prefixes of them.
 pub fn overlap(r: &mut Rng, pack: &mut Vec<u8>) {
     let read = Pack::read(pack).unwrap();
     let body = read.body.to_vec();
-    let mut nodes = read.nodes;
-    for n in &mut nodes {
+    let mut nodes = read.nodes.clone();
+    let under_views = |i: usize| read.parents[i].is_some_and(|p| read.nodes[p].kind == VIEWS);
+    for (i, n) in nodes.iter_mut().enumerate() {
         let bitmap = n.span().div_ceil(8);
         let first = if n.kind == BITS { bitmap } else { n.span() * n.param as usize };
-        if matches!(n.kind, BITS | NATIVE | FIXED) && first <= body.len() && r.percent(50) {
+        if matches!(n.kind, BITS | NATIVE | FIXED) && !under_views(i) && first <= body.len() && r.percent(50) {
             n.first = r.below(body.len() - first + 1) as u32;
         }
         // which keys are tested hangs on the bitmap

@@ -2,7 +2,7 @@
 use borrow.Author.Needs.{needs}
 use mathlib.Core.Path.{_∙_, sym}
 use Rattle.format.specs.Verdict.{conditions, firstOf, journalVerdict}
-use Rattle.checker.proofs.Passed.{table-passed}
+use Rattle.format.proofs.Accepted.{few-nodes, table-place}
 use Rattle.checker.proofs.check.Statement.{statement}
 use Rattle.checker.proofs.check.Tie as tie
 
@@ -19,7 +19,7 @@ unfolding journalVerdict conditions firstOf
 returns-3 c = let f = c .before .before in let e = f .before .before in rw (sym (e .before .wrong-size .ensures) ∙ e .if1 .left, sym (f .before .wrong-mark .ensures) ∙ f .if2 .left, sym (c .before .wrong-table .ensures) ∙ c .if3 .taken)
 
 check-nodes-requires : tie.Need-check-nodes-requires
-check-nodes-requires c κs = table-passed _ (sym (c .before .wrong-table .ensures) ∙ c .if3 .left)
+check-nodes-requires c κs = let e = sym (c .before .wrong-table .ensures) ∙ c .if3 .left in (few-nodes _ e, table-place _ e)
 
 returns-4 : tie.Need-returns-4
 unfolding journalVerdict conditions firstOf

@@ -11,7 +11,7 @@ const DATA: usize = 1 << 20;
 pub type Column = (&'static str, usize, fn(&mut Making, &mut Rng, usize));
 
 /// All rows that a node may have, or as many as make a pack of just under 16 MiB.
-pub const COLUMNS: [Column; 17] = [
+pub const COLUMNS: [Column; 19] = [
     ("native 1", ROWS, Making::native::<1>),
     ("native 4", ROWS, Making::native::<4>),
     ("native 8", ROWS, Making::native::<8>),
@@ -20,7 +20,10 @@ pub const COLUMNS: [Column; 17] = [
     ("bits", ROWS, Making::bits),
     ("native 8 with nulls", ROWS, Making::nullable),
     ("short strings", 1_046_000, Making::strings),
-    ("views", 983_000, Making::views),
+    ("views", 983_000, Making::views::<0, 24>),
+    // how long the check of a view takes hangs on whether the next is of the same sort
+    ("short views", 983_000, Making::views::<0, 12>),
+    ("long views", 983_000, Making::views::<13, 24>),
     ("list views", ROWS, Making::list_views),
     ("runs of 8", ROWS, Making::runs),
     ("dictionary", ROWS, Making::dictionary),
@@ -87,16 +90,21 @@ impl Making {
         self.nodes[node].second = self.put(r.bytes(ends[rows] as usize));
     }
 
-    /// Views of 0 to 24 bytes, the long ones into one data buffer.
-    fn views(&mut self, r: &mut Rng, rows: usize) {
-        let mut views = r.bytes(16 * rows);
-        for view in views.chunks_mut(16) {
-            view[..4].copy_from_slice(&(r.below(25) as u32).to_le_bytes());
-            view[8..12].fill(0);
-            view[12..].copy_from_slice(&(r.below(DATA - 24) as u32).to_le_bytes());
+    /// Views of LEAST to MOST bytes, the long ones into one data buffer.
+    fn views<const LEAST: usize, const MOST: usize>(&mut self, r: &mut Rng, rows: usize) {
+        let data = r.bytes(DATA);
+        let mut views = vec![];
+        for _ in 0..rows {
+            let (length, offset) = (LEAST + r.below(MOST - LEAST + 1), r.below(DATA - MOST));
+            views.extend((length as u32).to_le_bytes());
+            match length {
+                0..=12 => views.extend(r.bytes(length)),
+                _ => views.extend([&data[offset..offset + 4], &[0; 4], &(offset as u32).to_le_bytes()].concat()),
+            }
+            views.resize(views.len().next_multiple_of(16), 0);
         }
         self.node(VIEWS, 0, rows, 1, views);
-        self.native::<1>(r, DATA);
+        self.node(NATIVE, 1, DATA, 0, data);
     }
 
     /// 1,000 values.
@@ -171,7 +179,7 @@ impl Making {
         self.nullable(r, rows);
         self.bits(r, rows);
         self.strings(r, rows);
-        self.views(r, rows);
+        self.views::<0, 24>(r, rows);
         self.dictionary(r, rows);
     }
 }

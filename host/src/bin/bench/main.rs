@@ -5,7 +5,8 @@
 //!
 //! filter      filter.rs's `filter` on arrays built beforehand
 //! plain       for lists, which filter.rs leaves to arrow-data: a filter for that one column in plain Rust, on arrays built beforehand
-//! validation  the content rules that must hold before such arrays may be built, in Rust: the faster of two ways to join the tests
+//! validation  the content rules that must hold before such arrays may be built, in Rust: the fastest of two ways to join the tests and
+//!             two forms of the test of a view
 //! whole       the whole call of the port on the packs' bytes: check, measure, write; no list stored
 //! check, prepare, rest  its parts: the journal's verdict alone; the mask checked and counted alone; what is left of the whole
 //! memcpy      as many bytes as the extract has, copied
@@ -23,7 +24,7 @@ use host::port::entry::{self, Lent};
 use host::rust;
 use plain::Lists;
 use std::hint::black_box;
-use validate::{Early, Folded, validate};
+use validate::VALIDATIONS;
 
 /// Kept rows in thousandths: at the ends, in the middle, and on both sides of the route's threshold.
 const DENSITIES: [usize; 9] = [1, 10, 100, 500, 800, 810, 990, 999, 1000];
@@ -139,7 +140,7 @@ fn time_cell(room: &mut Room, mask: &[u8], journal: &[u8], rows: usize) -> Cell 
                 filter()
             })
         };
-        let behind_validation = behind(validate::<Early>).min(behind(validate::<Folded>));
+        let behind_validation = VALIDATIONS.map(behind).into_iter().reduce(f64::min).unwrap();
         Plain { alone: row(least(filter)), behind_validation: row(behind_validation) }
     });
     let bytes = (answer[3] as usize).min(journal.len());
@@ -155,8 +156,7 @@ fn time_column(room: &mut Room, (name, rows, make): Column) -> Timed {
     let journal = making.finish();
     assert_eq!(host::model::check(&journal), 0, "{name}");
     let pack = Pack::read(&journal).unwrap();
-    let validation =
-        least(|| assert!(validate::<Early>(black_box(&pack)))).min(least(|| assert!(validate::<Folded>(black_box(&pack)))));
+    let validation = VALIDATIONS.map(|valid| least(|| assert!(valid(black_box(&pack))))).into_iter().reduce(f64::min).unwrap();
     let check = least(|| assert_eq!(entry::check(black_box(&journal)), 0));
     let mut by_masks = |spread: fn(&mut Rng, usize, usize) -> Vec<bool>| {
         let mut cell = |density: usize| {

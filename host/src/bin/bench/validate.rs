@@ -1,6 +1,6 @@
 //! What a Rust program does before it may build arrays from bytes that came from elsewhere: the content rules of arrow-data's
 //! `validate_full`, as plain loops over the buffers. Offsets, views, list views, run ends, ids, keys; nulls are counted. Bytes are not
-//! UTF-8 here, and a view's prefix and padding are not looked at: the format has no such rule.
+//! UTF-8 here: the format has no such rule.
 use host::pack::*;
 
 /// How the tests of a loop are joined.
@@ -26,12 +26,56 @@ impl Way for Folded {
     }
 }
 
-/// All nodes of an accepted pack whose entries have the widths that the benchmark uses.
-pub fn validate<W: Way>(pack: &Pack) -> bool {
-    (0..pack.nodes.len()).all(|i| nulls_counted(pack, i) && node::<W>(pack, i))
+/// How a view is held to its data buffers: its range, its prefix, and zeros where a short one has no bytes.
+pub trait Form {
+    fn fits(view: &[u8; 16], buffers: &[&[u8]]) -> bool;
 }
 
-fn node<W: Way>(pack: &Pack, i: usize) -> bool {
+/// Field by field, byte by byte.
+pub struct Fields;
+
+/// As one number of 128 bits: arrow-data's form.
+pub struct Wide;
+
+impl Form for Fields {
+    fn fits(view: &[u8; 16], buffers: &[&[u8]]) -> bool {
+        let field = |k: usize| i32::from_le_bytes([view[4 * k], view[4 * k + 1], view[4 * k + 2], view[4 * k + 3]]);
+        let (length, buffer, offset) = (field(0), field(2) as usize, field(3) as usize);
+        match length {
+            ..0 => false,
+            0..=12 => view[4 + length as usize..].iter().all(|byte| *byte == 0),
+            _ => {
+                let data = buffers.get(buffer).and_then(|data| data.get(offset..)?.get(..length as usize));
+                data.is_some_and(|data| data[..4] == view[4..8])
+            }
+        }
+    }
+}
+
+impl Form for Wide {
+    fn fits(view: &[u8; 16], buffers: &[&[u8]]) -> bool {
+        let view = u128::from_le_bytes(*view);
+        // read unsigned, a negative length is past the end of any buffer
+        let length = view as u32;
+        if length <= 12 {
+            return length == 12 || view >> (32 + 8 * length) == 0;
+        }
+        let (prefix, buffer, offset) = ((view >> 32) as u32, (view >> 64) as u32 as usize, (view >> 96) as u32 as usize);
+        let data = buffers.get(buffer).and_then(|data| data.get(offset..offset + length as usize));
+        data.is_some_and(|data| data.starts_with(&prefix.to_le_bytes()))
+    }
+}
+
+/// All ways and forms: the fastest is what the port is held to.
+pub const VALIDATIONS: [fn(&Pack) -> bool; 4] =
+    [validate::<Early, Fields>, validate::<Early, Wide>, validate::<Folded, Fields>, validate::<Folded, Wide>];
+
+/// All nodes of an accepted pack whose entries have the widths that the benchmark uses.
+fn validate<W: Way, F: Form>(pack: &Pack) -> bool {
+    (0..pack.nodes.len()).all(|i| nulls_counted(pack, i) && node::<W, F>(pack, i))
+}
+
+fn node<W: Way, F: Form>(pack: &Pack, i: usize) -> bool {
     let n = &pack.nodes[i];
     let rows = n.rows as usize;
     match (n.kind, n.param) {
@@ -42,7 +86,11 @@ fn node<W: Way>(pack: &Pack, i: usize) -> bool {
             let rising = W::all(offsets[..rows].iter().zip(&offsets[1..]).map(|(a, b)| signed(a) <= signed(b)));
             rising & (signed(&offsets[0]) >= 0) & (signed(&offsets[rows]) <= end as i32)
         }
-        (VIEWS, _) => views::<W>(pack, i),
+        (VIEWS, _) => {
+            let data = |kid: &usize| &pack.body[pack.nodes[*kid].first as usize..][..pack.nodes[*kid].rows as usize];
+            let buffers: Vec<&[u8]> = pack.children(i).iter().map(data).collect();
+            W::all(pack.body[n.first as usize..][..16 * rows].as_chunks().0.iter().map(|view| F::fits(view, &buffers)))
+        }
         (LIST_VIEW, _) => {
             let child = pack.nodes[i + 1].rows as i64;
             let (offsets, sizes) = (fours(pack, n.first, rows), fours(pack, n.second, rows));
@@ -66,17 +114,6 @@ fn node<W: Way>(pack: &Pack, i: usize) -> bool {
         }
         other => unreachable!("kind and param {other:?}"),
     }
-}
-
-fn views<W: Way>(pack: &Pack, i: usize) -> bool {
-    let n = &pack.nodes[i];
-    let buffers: Vec<i64> = pack.children(i).iter().map(|kid| pack.nodes[*kid].rows as i64).collect();
-    W::all(pack.body[n.first as usize..][..16 * n.rows as usize].as_chunks::<16>().0.iter().map(|view| {
-        let field = |k: usize| i32::from_le_bytes([view[4 * k], view[4 * k + 1], view[4 * k + 2], view[4 * k + 3]]);
-        let (length, buffer, offset) = (field(0), field(2), field(3));
-        let room = buffers.get(buffer as usize).copied().unwrap_or(-1);
-        (length >= 0) & ((length <= 12) | ((offset >= 0) & (offset as i64 + length as i64 <= room)))
-    }))
 }
 
 /// The nulls, which arrow-data holds to the count that came with them.

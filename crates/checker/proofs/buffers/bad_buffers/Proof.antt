@@ -3,7 +3,7 @@ use borrow.Author.Needs.{needs}
 use Rattle.format.specs.Bytes.{bytesFor}
 use Rattle.format.specs.Node.{hasNoBitmap, kind, places}
 use Rattle.format.specs.Verdict.{badBuffers}
-use Rattle.checker.proofs.Passed.{few-rows}
+use Rattle.checker.proofs.Sizes.{few-rows}
 use Rattle.checker.proofs.buffers.bad_buffers.Statement.{statement}
 use Rattle.checker.proofs.buffers.bad_buffers.Tie as tie
 

@@ -2,7 +2,7 @@
 use borrow.Author.Needs.{needs}
 use native.Mathlib.Omega.{arith}
 use Rattle.format.specs.Bytes.{bytesFor}
-use Rattle.checker.proofs.Passed.{product-fits}
+use Rattle.checker.proofs.Sizes.{product-fits}
 use Rattle.checker.proofs.buffers.first_size.Statement.{statement}
 use Rattle.checker.proofs.buffers.first_size.Tie as tie
 

@@ -4,7 +4,7 @@ use denote.Ref.{now}
 use mathlib.Core.Path.{_∙_, refl}
 use native.Mathlib.Omega.{arith}
 use Rattle.format.specs.Verdict.{badContent}
-use Rattle.checker.proofs.Inside.{Looked, ids-in, ids-is, keys-is, kind-is, lists32-in, lists32-is, lists64-in, lists64-is, nested32-in, nested32-is, nested64-in, nested64-is, nothing-is, offsets32-in, offsets32-is, offsets64-in, offsets64-is, places-few, runs-in, runs-is, views-in, views-is}
+use Rattle.checker.proofs.Inside.{Looked, ids-in, ids-is, keys-is, kind-is, lists32-in, lists32-is, lists64-in, lists64-is, nested32-in, nested32-is, nested64-in, nested64-is, nothing-is, offsets32-in, offsets32-is, offsets64-in, offsets64-is, read-few, runs-in, runs-is, views-in, views-is}
 use Rattle.checker.proofs.contents.bad_content.Statement.{statement}
 use Rattle.checker.proofs.contents.bad_content.Tie as tie
 
@@ -30,7 +30,7 @@ bad-lists64-requires : tie.Need-bad-lists64-requires
 bad-lists64-requires c κs = lists64-in (looked (c .before .before)) (c .enum-told8 .given .1)
 
 add-bad-runs : tie.Need-add-bad-runs
-add-bad-runs c = omega (arith, places-few (looked (c .before .before .before)))
+add-bad-runs c = omega (arith, read-few (looked (c .before .before .before)))
 
 bad-runs-requires : tie.Need-bad-runs-requires
 bad-runs-requires c κs = runs-in (looked (c .before .before .before)) (c .before .enum-told9 .given .1)
