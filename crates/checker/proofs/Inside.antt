@@ -1,8 +1,8 @@
 -- Refusal 8 on a node that was read: its buffers can be read, and the kernels' answers are the definition's. Assumes nothing.
-use Prim.Native.Nat.{ℕ, zero, suc, _+_, _-_, _*_, _/_, _^_, _≤_, _<_}
-use mathlib.Core.Bool.{Bool, true, false, false≢true}
+use Prim.Native.Nat.{ℕ, _+_, _-_, _*_, _/_, _^_, _≤_, _<_}
+use mathlib.Core.Bool.{Bool, true, false}
 use mathlib.Core.List.{List, [], _∷_}
-use mathlib.Core.Path.{_≡_, refl, sym, ap, _∙_}
+use mathlib.Core.Path.{_≡_, sym, ap, _∙_}
 use native.Mathlib.Nat.{mul-add}
 use native.Mathlib.Omega.{arith}
 use borrow.Author.Tests.{eq-eqb, ne-eqb}
@@ -10,56 +10,17 @@ use lib.ListN.{length}
 use Rattle.format.specs.declared.Kind.{Kind}
 use Rattle.format.specs.declared.Kind.the-variants.{Bytes32, Bytes64, Views, Lists32, Lists64, Runs, Union, Dictionary, Nested32, Nested64}
 use Rattle.format.specs.Bytes.{anyBelow, bytesFor}
-use Rattle.format.specs.Node.{tableStart, nodeCount, noBitmap, kindOf, kind, param, rows, skip, kids, firstAt, secondLength, places, hasNoBitmap, child, dataBuffer, Ancestor, ancestor, closed, oneLess, ancestors}
-use Rattle.format.specs.Verdict.{oneOf, firstSize, secondSize, badContent, empty, wrongTree}
+use Rattle.format.specs.Node.{tableStart, nodeCount, noBitmap, kindOf, kind, param, rows, skip, kids, firstAt, secondLength, places, hasNoBitmap, child, dataBuffer}
+use Rattle.format.specs.Verdict.{oneOf, firstSize, secondSize, badContent}
 use Rattle.content.specs.Numbers.{badOffsetsAt, badRangeAt, badKey, badValidKey, badRunsAt, badViewAt, DataBuffers}
 use Rattle.format.specs.Accepted.{DataBuffer}
-use Rattle.format.proofs.Accepted.{params-right, places-few, bitmap-inside, first-inside, second-inside, tree-ends, data-buffers}
+use Rattle.format.proofs.Accepted.{params-right, places-few, bitmap-inside, first-inside, second-inside, data-buffers}
 use Rattle.content.proofs.Nodes.{offsets-at, lists-at, runs-at, ids-at, keys-at, valid-keys-at, views-at, data-rows, data-skip, data-first}
 use Rattle.pack.specs.declared.Node.{Node}
 use Rattle.pack.specs.Read.{nodeOf}
 use Rattle.checker.specs.Laid.{Laid}
 use Rattle.checker.proofs.Fits.{kind-read}
 use Rattle.checker.proofs.Sizes.{few-rows}
-
--- the children still to come of all open nodes: each node brings its own and takes one away, and at the end none is left
-total : List Ancestor → ℕ
-total [] = 0
-total (ancestor n k ∷ s) = k + total s
-
-total-closed : (s : List Ancestor) → total (closed s) ≡ total s
-unfolding total closed
-total-closed [] = refl
-total-closed (ancestor n zero ∷ s) = total-closed s ∙ omega arith
-total-closed (ancestor n (suc k) ∷ s) = refl
-
-total-less : (s : List Ancestor) → total s ≤ suc (total (oneLess s))
-unfolding total oneLess
-total-less [] = omega arith
-total-less (ancestor n zero ∷ s) = omega arith
-total-less (ancestor n (suc k) ∷ s) = omega arith
-
-module _ (b : List ℕ) where
-  total-step : (i : ℕ) → total (ancestors b (suc i)) ≡ kids b i + total (oneLess (ancestors b i))
-  unfolding total ancestors
-  total-step i = total-closed (ancestor i (kids b i) ∷ oneLess (ancestors b i))
-
-  total-on : (d i : ℕ) → total (ancestors b i) ≤ d + total (ancestors b (i + d))
-  total-on zero i = let e : i + zero ≡ i = omega arith in rw e (omega arith)
-  total-on (suc d) i =
-      let e : i + suc d ≡ suc i + d = omega arith in
-      rw e (omega (arith, total-on d (suc i), total-step i, total-less (ancestors b i)))
-
-  total-empty : (s : List Ancestor) → empty s ≡ true → total s ≡ 0
-  unfolding total empty
-  total-empty [] e = refl
-  total-empty (a ∷ s) e = absurd (false≢true e)
-
-  pub kids-inside : wrongTree b ≡ false → (i : ℕ) → i < nodeCount b → i + kids b i < nodeCount b
-  kids-inside e i l =
-      let q : suc i + (nodeCount b - suc i) ≡ nodeCount b = omega arith in
-      let z : total (ancestors b (suc i + (nodeCount b - suc i))) ≡ 0 = rw q (total-empty (ancestors b (nodeCount b)) (tree-ends b e)) in
-      omega (arith, total-on (nodeCount b - suc i) (suc i), total-step i)
 
 -- a node that was read, with its kind and its child's rows
 pub record Looked (b : List ℕ) (i : ℕ) (n : Node) (k : Kind) (m : ℕ) : Type 0 where

@@ -307,7 +307,7 @@ module _ (b : List ℕ) (i : ℕ) (h : i < nodeCount b) where
         buffers-right)
 
 module _ (b : List ℕ) (e : wrongTree b ≡ false) where
-  pub tree-ends : empty (ancestors b (nodeCount b)) ≡ true
+  tree-ends : empty (ancestors b (nodeCount b)) ≡ true
   unfolding wrongTree notClosed
   tree-ends = not-false _ (or-right (anyBelow (λ i. ltb 0 i && empty (ancestors b i)) (nodeCount b)) _ (or-left _ _ (or-left _ _ e)))
 
