@@ -62,7 +62,7 @@ module _ (b : List ℕ) (small : (k : ℕ) → getD b k 0 < 256) where
   abbrev spare : ℕ → ℕ → ℕ → Bool
   spare n l p = anyBelow (λ k. leb l k && some (getD b (p + k) 0)) n
 
-  -- they are the number without those l
+  -- the same without the first byte
   later : (n l p : ℕ) → anyBelow (λ k. leb (suc l) (suc k) && some (getD b (p + suc k) 0)) n ≡ spare n l (p + 1)
   later n l p =
       any-ext _ _ n
@@ -77,6 +77,7 @@ module _ (b : List ℕ) (small : (k : ℕ) → getD b k 0 < 256) where
       ∙ some-both (getD b p 0) (le n b (p + 1)) (getD b p 0 + 256 * le n b (p + 1)) (λ e. (omega arith, omega arith)) (λ e f. omega arith)
       ∙ ap some (sym (le-more (suc n) n b p (p + 1) (omega arith) refl))
 
+  -- such a byte is there just where the number, without its first l bytes, is not zero
   past : (n l m p : ℕ) → m ≡ min l n → spare n l p ≡ some (le n b p / 256 ^ m)
   past zero l m p e = sym (any-start _) ∙ rw (le-none 0 b p refl, zero-div)
   past (suc n) zero m p e =

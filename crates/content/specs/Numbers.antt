@@ -66,7 +66,7 @@ unfoldable pub badViewAt : List ℕ → ℕ → ℕ → ℕ → Bool
 badViewAt b kids buffers here =
     negative 4 (viewAt 0 b here) || cond (ltb 12 (viewAt 0 b here)) (badLongAt b kids buffers here) (unusedAt b here (viewAt 0 b here))
 
--- `kids` data buffers: their nodes can be read, they have few rows, and so can those rows be
+-- `kids` data buffers: their nodes can be read, their rows are fewer than a length that is not negative may say, and these rows can be read too
 pub record DataBuffers (b : List ℕ) (kids buffers : ℕ) : Type 0 where
   pub nodes : (k : ℕ) → k < kids → buffers + 40 * k + 20 ≤ length b
   pub few : (k : ℕ) → k < kids → le 4 b (buffers + 40 * k) < 2 ^ 31

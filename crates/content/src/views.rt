@@ -48,8 +48,8 @@ fn bad_long(s: &[u8], here: usize, kids: u32, buffers: usize) -> bool
     get32(s, here + 4) != get32(s, data)
 }
 
-// Whether the view at a place is wrong. Long or short is a branch, as it is in Rust: where neighbours are of one sort the processor foresees it, and then
-// only that sort's test is made. Without a branch both are, and lengths of one sort take up to twice as long (docs/DECISIONS.md, 77).
+// Whether the view at a place is wrong. Long or short is a branch, as it is in Rust: only one of the two tests is made. Without a branch both are, which in
+// a model was quicker for lengths mixed at random and took twice as long for lengths of one sort (docs/DECISIONS.md, 77).
 fn bad_view(s: &[u8], here: usize, kids: u32, buffers: usize) -> bool
     requires { ⌜ (here + 16 ≤ length (now s)) × DataBuffers (now s) kids buffers ⌝ }
     ensures { λ t. ⌜ t ≡ badViewAt (now (s .entry)) kids buffers here ⌝ }
