@@ -50,7 +50,7 @@ enum wurtziteloom_pack {
  * Returns 0 on success. Then answer is: rows kept, slots of the mask, route, bytes of the extract. The extract stands at the start of
  * output; the scratch needed is zero; the rest of output, list and scratch is as it was.
  *
- * Otherwise returns the number of the refusal, 1 to 14. Then answer is: that number, the pack it names, 0, 0. Output, list and scratch
+ * Otherwise returns the number of the refusal, 1 to 14 or 20. Then answer is: that number, the pack it names, 0, 0. Output, list and scratch
  * are as they were.
  */
 uint64_t filter(const uint8_t *mask, size_t mask_len, const uint8_t *journal, size_t journal_len, bool stated, uint64_t count,
@@ -62,16 +62,16 @@ uint64_t filter(const uint8_t *mask, size_t mask_len, const uint8_t *journal, si
  * The arguments are those of filter.
  *
  * Returns 0 on success. Then answer is: slots picked, slots of the mask, route, 0.
- * Otherwise returns the number of the refusal (1 to 9, 11 or 12). Then answer is: that number, the pack it names (12 names the journal,
- * as in filter), 0, 0, and the list is as it was.
+ * Otherwise returns the number of the refusal (1 to 9, 11, 12 or 20). Then answer is: that number, the pack it names (12 names the
+ * journal, as in filter), 0, 0, and the list is as it was.
  */
 uint64_t prepare(const uint8_t *mask, size_t mask_len, bool stated, uint64_t count, bool asked, uint32_t *list, size_t list_len,
                  uint64_t answer[4]);
 
-/* The verdict on a journal: 0 if it is accepted, else the number of the refusal, 1 to 8. */
+/* The verdict on a journal: 0 if it is accepted, else the number of the refusal, 1 to 8 or 20. */
 uint64_t check(const uint8_t *pack, size_t len);
 
-/* The verdict on a mask: 0 if it is accepted, else the number of the refusal, 1 to 9. */
+/* The verdict on a mask: 0 if it is accepted, else the number of the refusal, 1 to 9 or 20. */
 uint64_t check_mask(const uint8_t *mask, size_t len);
 
 #ifdef __cplusplus

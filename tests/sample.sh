@@ -32,12 +32,35 @@ write("mask.pack", Pack().flags([True, False, False, True, False]).whole())
 write("mask6.pack", Pack().flags([True, False, False, True, False, True]).whole())
 PY
 same 'P1' 'rows 2 of 5 route indices bytes 64' "$(extract)"
-p1='0500000008000000 02000000040000000200000000000000 00000000ffffffff0000000000000000 0000000000000000 0800000001000000020000 00434f4c50'
+p1='0500000008000000 02000000040000000200000000000000 00000000ffffffff0000000000000000 0000000000000000 0800000001000000020000 00434f4c51'
 same 'P1, byte for byte' "${p1// /}" "$(od -An -v -tx1 "$work/out.pack" | tr -d ' \n')"
 mv "$work/mask6.pack" "$work/mask.pack"
 rm "$work/out.pack"
 same 'six against five' 'refused 10 journal' "$(extract)"
 same 'a refused call writes no file' no "$([ -e "$work/out.pack" ] && echo yes || echo no)"
+
+# the sample's journal with the old mark and no null counts, which gives the same extract; and with one row too many said to be null
+python3 - "$work" <<'PY'
+import sys
+sys.path.insert(0, "tools")
+from packs import MARK, OLD_MARK
+pack = bytearray(open("sample/journal.pack", "rb").read())
+assert pack[-4:] == MARK
+start, nodes = (int.from_bytes(pack[-at : -at + 4], "little") for at in (16, 12))
+wrong = pack.copy()
+wrong[start + 36] += 1
+open(f"{sys.argv[1]}/wrong.pack", "wb").write(wrong)
+for i in range(nodes):
+    pack[start + 40 * i + 36 : start + 40 * i + 40] = bytes(4)
+pack[-4:] = OLD_MARK
+open(f"{sys.argv[1]}/journal.pack", "wb").write(pack)
+PY
+cp sample/mask.pack "$work/mask.pack"
+same 'the sample with the old mark' 'rows 11 of 40 route indices bytes 1184' "$(extract)"
+same "its extract, byte for byte" "$(sum sample/extract.pack)" "$(sum "$work/out.pack")"
+mv "$work/wrong.pack" "$work/journal.pack"
+same 'a wrong null count' 'refused 20 journal' "$(extract)"
+python3 tools/show.py "$work/journal.pack" >/dev/null 2>&1; same 'show.py on a wrong null count' 1 $?
 
 cp sample/journal.pack "$work/journal.pack"; rm "$work/mask.pack"
 same 'a missing mask counts as empty' 'refused 1 mask' "$(extract)"

@@ -13,15 +13,15 @@ TEXT_ROOM, PACK_ROOM, LIST_ROOM, SCRATCH_ROOM = 65_536, 4096, 256, 64  # what th
 given, expected = [], []
 
 
-def pack():
+def pack(old=False):
     """A pack to be filtered, in which waste is ones."""
-    return Pack(waste=0xFF)
+    return Pack(waste=0xFF, old=old)
 
 
-def mask(slots, before=""):
+def mask(slots, before="", old=False):
     """T and F; n is a null whose bit is false, N one whose bit is true."""
     meaning = {"T": True, "F": False, "n": Null(False), "N": Null(True)}
-    return pack().flags([meaning[s] for s in slots], [meaning[s] for s in before])
+    return pack(old).flags([meaning[s] for s in slots], [meaning[s] for s in before])
 
 
 def words(data):
@@ -44,11 +44,11 @@ def call(name, mask, journal, stated, asked, places, scratch, output):
     given.append(" ".join([name, *words(mask), "|", *words(journal), "|", *map(str, lent)]))
 
 
-def done(name, slots, answer, journal, extract, entries=None, scratch=0, spare=3, stated=None, before=""):
+def done(name, slots, answer, journal, extract, entries=None, scratch=0, spare=3, stated=None, before="", old_mask=False):
     """A call that is not refused, by a mask's slots and those before its skip: its answer, its extract, the entries where a list is
     asked for, and the bytes of scratch needed. Each buffer is lent with so much to spare."""
     extract, asked = extract.whole(), entries is not None
-    call(name, mask(slots, before), journal, stated, asked, len(entries or ()) + spare, scratch + spare, len(extract) + spare)
+    call(name, mask(slots, before, old_mask), journal, stated, asked, len(entries or ()) + spare, scratch + spare, len(extract) + spare)
     expected.append(f"{name}: {answer} bytes {len(extract)}")
     expected.append(" ".join(["  extract", *(extract[i : i + 4].hex() for i in range(0, len(extract), 4))]))
     if asked:
@@ -334,11 +334,11 @@ def lists():
     done("a-null-list-loses-its-child-rows", "TTF", "rows 2 of 3 route indices",
          pack().lists([2, Null(1), 1]).native(4, [10, 11, 12, 13]),
          worked_out(Pack().lists([2, None]).native(4, [10, 11]), 1, 0, 0, 2, 2, 0, 10, 11,
-                    13, 0, 2, 0, 1, 0, 8, 0, 0, 0, 2, 4, 2, 0, 0, NO_BITMAP, 24, 0, 0, 0, 32, 2, 2), scratch=1)
+                    13, 0, 2, 0, 1, 0, 8, 0, 0, 1, 2, 4, 2, 0, 0, NO_BITMAP, 24, 0, 0, 0, 32, 2, 2), scratch=1)
     done("a-null-list64-loses-its-child-rows", "TTF", "rows 2 of 3 route indices",
          pack().lists([2, Null(1), 1], kind=14).native(4, [10, 11, 12, 13]),
          worked_out(Pack().lists([2, None], kind=14).native(4, [10, 11]), 1, 0, 0, 0, 2, 0, 2, 0, 10, 11,
-                    14, 0, 2, 0, 1, 0, 8, 0, 0, 0, 2, 4, 2, 0, 0, NO_BITMAP, 32, 0, 0, 0, 40, 2, 2), scratch=1)
+                    14, 0, 2, 0, 1, 0, 8, 0, 0, 1, 2, 4, 2, 0, 0, NO_BITMAP, 32, 0, 0, 0, 40, 2, 2), scratch=1)
     done("a-null-list-that-is-dropped", "TFT", "rows 2 of 3 route indices",
          pack().lists([2, Null(1), 1]).native(4, [10, 11, 12, 13]), Pack().lists([2, 1]).native(4, [10, 11, 13]), scratch=1)
     done("all-lists-lose-what-is-in-none", "TTTT", "rows 4 of 4 route all",
@@ -387,7 +387,7 @@ def nested_lists():
     done("lists-under-lists", "FTF", "rows 1 of 3 route indices",
          pack().lists([1, 3, 1]).lists([1, Null(2), 0, 2, 1]).native(4, [10, 20, 21, 40, 41, 50]),
          worked_out(Pack().lists([3]).lists([None, 0, 2]).native(4, [40, 41]), 0, 3, 0b110, 0, 0, 0, 0, 2, 40, 41,
-                    13, 0, 1, 0, 1, NO_BITMAP, 0, 0, 0, 0, 13, 0, 3, 0, 1, 8, 16, 0, 0, 0, 2, 4, 2, 0, 0, NO_BITMAP, 32, 0, 0, 0, 40, 3, 1),
+                    13, 0, 1, 0, 1, NO_BITMAP, 0, 0, 0, 0, 13, 0, 3, 0, 1, 8, 16, 0, 0, 1, 2, 4, 2, 0, 0, NO_BITMAP, 32, 0, 0, 0, 40, 3, 1),
          scratch=2)
     # the offsets start at 3 and below at 2; kept are the inner lists 3 and 4, none (a null, over the list of 18 and 19), and 7
     done("lists-under-lists-with-skips", "TFTT", "rows 3 of 4 route indices",
@@ -403,7 +403,7 @@ def nested_lists():
     done("runs-under-lists", "TTFT", "rows 3 of 4 route indices",
          pack().lists([2, Null(1), 2, 1]).runs(4, 6, [1, 4, 6]).native(4, [10, 20, 30]),
          worked_out(Pack().lists([2, None, 1]).runs(4, 3, [1, 2, 3]).native(4, [10, 20, 30]), 0b101, 0, 0, 2, 2, 3, 1, 2, 3, 0, 10, 20, 30, 0,
-                    13, 0, 3, 0, 1, 0, 8, 0, 0, 0, 9, 4, 3, 0, 1, NO_BITMAP, 24, 0, 0, 0, 2, 4, 3, 0, 0, NO_BITMAP, 40, 0, 0, 0, 56, 3, 3),
+                    13, 0, 3, 0, 1, 0, 8, 0, 0, 1, 9, 4, 3, 0, 1, NO_BITMAP, 24, 0, 0, 0, 2, 4, 3, 0, 0, NO_BITMAP, 40, 0, 0, 0, 56, 3, 3),
          scratch=2)
     # the runs of a dropped list and of a null one go; the child rows are the places 2 to 6 of the runs
     done("runs-under-lists-go-with-their-lists", "TFT", "rows 2 of 3 route indices",
@@ -508,7 +508,8 @@ def three_in_lists(kind, offsets, valid=0b11, **fields):
     """Lists by their offsets, over a child of three rows; their bits of the bitmap; fields that a list does not use may be given."""
     p = Pack()
     validity, first = p.buffer(bytes([valid])), p.buffer(numbers(4 if kind == 13 else 8, offsets))
-    p.node(kind, 0, len(offsets) - 1, 0, 1, validity, first, **fields)
+    rows = len(offsets) - 1
+    p.node(kind, 0, rows, 0, 1, validity, first, nulls=sum(not valid >> i & 1 for i in range(rows)), **fields)
     return p.native(1, [7, 8, 9])
 
 
@@ -555,6 +556,50 @@ def view_slips():
          pack().views(0, [view(b""), view(b"eleven byte"), view(b"twelve bytes")]), Pack().views(0, [view(b""), view(b"twelve bytes")]))
 
 
+def saying(p, i, count):
+    """The pack, with another null count on node i."""
+    p.nodes[i] = (*p.nodes[i][:9], count)
+    return p
+
+
+def one_of_three(old=False):
+    """1, null and 3, behind two null rows that are passed over."""
+    return pack(old).native(4, [1, None, 3], [None, None])
+
+
+def null_counts():
+    title("null counts, and packs with the old mark")
+    # the bitmap 01, the values 1 and 0, and one row null in the last field
+    one_null = worked_out(Pack().native(4, [1, None]), 1, 0, 1, 0, 2, 4, 2, 0, 0, 0, 8, 0, 0, 1, 16, 1, 2)
+    done("null-count-of-the-kept-rows", "TTF", "rows 2 of 3 route indices", one_of_three(), one_null)
+    done("null-count-of-an-old-journal", "TTF", "rows 2 of 3 route indices", one_of_three(old=True), one_null)
+    done("null-count-0-and-no-bitmap", "TFT", "rows 2 of 3 route indices", one_of_three(), Pack().native(4, [1, 3]))
+    done("every-kind-of-old-packs", "TTTFTT", "rows 5 of 6 route slices",
+         every_kind(pack(old=True), range(6), [3, 6, 9], range(3), True),
+         every_kind(Pack(), [0, 1, 2, 4, 5], [2, 4, 5], range(3), False), scratch=1 + 1 + 2, old_mask=True)
+    for case, journal in (
+        ("of-the-rows-passed-over-too", saying(one_of_three(), 0, 3)),
+        ("of-the-valid-rows", saying(one_of_three(), 0, 2)),
+        ("0", saying(one_of_three(), 0, 0)),
+        ("4294967295", saying(one_of_three(), 0, 4_294_967_295)),
+        ("without-a-bitmap", saying(pack().native(4, [1, 2, 3]), 0, 1)),
+        ("of-runs", saying(pack().runs(2, 3, [3]).native(1, [7]), 0, 1)),
+        ("of-a-union", saying(pack().union(1, [0, 0, 0]).native(1, [7, 8, 9]), 0, 1)),
+        ("of-the-last-node", saying(pack().struct(1, [True, None, True]).native(1, [7, 8, 9]), 1, 1)),
+        ("of-a-data-buffer", saying(pack().views(1, [view(b"")] * 3).native(1, b"x"), 1, 1)),
+    ):
+        refused(f"20-null-count-{case}", "20 journal", mask("TTF"), journal, output=200)
+    refused("20-mask-null-count-2", "20 mask", saying(mask("TNTF"), 0, 2), FOUR)
+    refused("4-null-count-with-the-old-mark", "4 journal", mask("TTF"), saying(one_of_three(old=True), 0, 1))
+    refused("2-mark-ends-in-52", "2 journal", mask("TTF"), one_of_three().whole()[:-1] + b"\x52")
+    refused("8-before-20", "8 journal", mask("T"), saying(three_in_lists(13, [0, 3, 2]), 0, 1))
+    refused("20-before-9", "20 mask", saying(one_of_three(), 0, 0), FOUR)
+    refused("20-before-10", "20 journal", mask("TTTT"), saying(one_of_three(), 0, 0))
+    refused("20-before-11", "20 mask", saying(mask("TNTF"), 0, 0), FOUR, stated=3)
+    refused("20-before-12", "20 journal", mask("TTF"), saying(one_of_three(), 0, 0), asked=True, places=1)
+    refused("11-before-20-of-the-journal", "11 mask", mask("TTF"), saying(one_of_three(), 0, 0), stated=3)
+
+
 def order():
     title("refusal slips: edges and order")
     good = mask("TFFTF")
@@ -574,7 +619,7 @@ def order():
 
 def main():
     folder = sys.argv[1] if len(sys.argv) > 1 else os.path.join(os.path.dirname(os.path.abspath(__file__)), "..", "crates", "cases")
-    for group in (bench, length_128, kinds, kinds_by_routes, widths, nesting, under_runs, lists, nested_lists, masks, limits, slips, list_slips, view_slips, order):
+    for group in (bench, length_128, kinds, kinds_by_routes, widths, nesting, under_runs, lists, nested_lists, masks, limits, slips, list_slips, view_slips, null_counts, order):
         group()
     for name, lines in (("stdin", given), ("stdout", expected)):
         text = "".join(line + "\n" for line in lines)

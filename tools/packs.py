@@ -3,7 +3,8 @@ Null(entry), a null whose entry is that."""
 import struct
 from itertools import accumulate
 
-MARK = bytes.fromhex("434F4C50")
+MARK = bytes.fromhex("434F4C51")  # of a pack whose nodes carry their null counts
+OLD_MARK = bytes.fromhex("434F4C50")
 NO_BITMAP = 0xFFFFFFFF
 
 
@@ -21,6 +22,11 @@ def valid(row):
     return row is not None and not isinstance(row, Null)
 
 
+def nulls(rows):
+    """The null count of a node with these rows from skip on."""
+    return sum(not valid(row) for row in rows)
+
+
 def numbers(width, values):
     return b"".join(v.to_bytes(width, "little") for v in values)
 
@@ -32,11 +38,11 @@ def view(text, buffer=0, offset=0):
 
 
 class Pack:
-    """A pack as it grows. `waste` fills what means nothing: bytes between buffers, spare bits; 0 is what an extract has there. Every
-    method that adds a column gives the pack back; `before` are the rows that its skip passes over."""
+    """A pack as it grows. `waste` fills what means nothing: bytes between buffers, spare bits; 0 is what an extract has there. An `old` one
+    has the old mark and no null counts. Every method that adds a column gives the pack back; `before` are the rows that its skip passes over."""
 
-    def __init__(self, waste=0):
-        self.body, self.nodes, self.waste = b"", [], waste
+    def __init__(self, waste=0, old=False):
+        self.body, self.nodes, self.waste, self.old = b"", [], waste, old
 
     def buffer(self, data):
         at = len(self.body)
@@ -55,14 +61,14 @@ class Pack:
     def bitmap(self, rows):
         return NO_BITMAP if all(map(valid, rows)) else self.buffer(self.bits([valid(row) for row in rows]))
 
-    def node(self, kind, param, rows, skip=0, kids=0, validity=NO_BITMAP, first=0, second=0, length=0):
-        self.nodes.append((kind, param, rows, skip, kids, validity, first, second, length, 0))
+    def node(self, kind, param, rows, skip=0, kids=0, validity=NO_BITMAP, first=0, second=0, length=0, nulls=0):
+        self.nodes.append((kind, param, rows, skip, kids, validity, first, second, length, 0 if self.old else nulls))
         return self
 
     def entries(self, kind, param, before, rows, entries, kids=0):
         """A column of one buffer."""
         validity = self.bitmap([*before, *rows])
-        return self.node(kind, param, len(rows), len(before), kids, validity, self.buffer(entries))
+        return self.node(kind, param, len(rows), len(before), kids, validity, self.buffer(entries), nulls=nulls(rows))
 
     def flags(self, rows, before=()):
         return self.entries(1, 0, before, rows, self.bits([entry(row, False) for row in (*before, *rows)]))
@@ -79,7 +85,7 @@ class Pack:
         validity = self.bitmap([*before, *rows])
         first = self.buffer(numbers(4 if kind == 4 else 8, accumulate(map(len, texts), initial=0)))
         data = b"".join(texts)
-        return self.node(kind, 0, len(rows), len(before), 0, validity, first, self.buffer(data), len(data))
+        return self.node(kind, 0, len(rows), len(before), 0, validity, first, self.buffer(data), len(data), nulls(rows))
 
     def views(self, kids, rows, before=()):
         """Rows are views; the data buffers come next, each native of width 1."""
@@ -92,7 +98,7 @@ class Pack:
         width = 4 if kind == 7 else 8
         first = self.buffer(numbers(width, [offset for offset, _ in ranges]))
         second = self.buffer(numbers(width, [size for _, size in ranges]))
-        return self.node(kind, 0, len(rows), len(before), 1, validity, first, second)
+        return self.node(kind, 0, len(rows), len(before), 1, validity, first, second, nulls=nulls(rows))
 
     def runs(self, width, rows, ends, skip=0):
         """So many rows; the child, a row for each run, comes next."""
@@ -100,7 +106,7 @@ class Pack:
 
     def struct(self, kids, rows, before=()):
         """A row is True, or None for a null. The children come next."""
-        return self.node(10, 0, len(rows), len(before), kids, self.bitmap([*before, *rows]))
+        return self.node(10, 0, len(rows), len(before), kids, self.bitmap([*before, *rows]), nulls=nulls(rows))
 
     def union(self, kids, ids, before=()):
         return self.entries(11, 0, before, ids, bytes([*before, *ids]), kids)
@@ -116,4 +122,4 @@ class Pack:
 
     def whole(self):
         table = b"".join(struct.pack("<10I", *n) for n in self.nodes)
-        return self.body + table + struct.pack("<3I", len(self.body), len(self.nodes), self.nodes[0][2]) + MARK
+        return self.body + table + struct.pack("<3I", len(self.body), len(self.nodes), self.nodes[0][2]) + (OLD_MARK if self.old else MARK)

@@ -7,6 +7,7 @@ import sys
 
 PACK_LIMIT, ROW_LIMIT, NODE_LIMIT, DEPTH_LIMIT = 16_777_216, 1_048_576, 64, 8
 NO_BITMAP = 0xFFFFFFFF
+MARK, OLD_MARK = b"COLQ", b"COLP"  # with the first, nodes carry their null counts
 ROWS_SHOWN, ITEMS_SHOWN, BYTES_SHOWN = 100, 5, 40  # a table is for a reader: the rest is counted, not printed
 NAMES = ("", "bits", "native", "fixed", "bytes", "bytes64", "views", "list views", "list views64", "runs", "struct", "union", "dictionary",
          "lists", "lists64")
@@ -29,7 +30,7 @@ class Node:
         need(nodes, "a node is missing")
         need(depth <= DEPTH_LIMIT, "nested too deep")
         self.body = body
-        self.kind, self.param, self.rows, self.skip, kids, self.validity, self.first, self.second, self.length, _ = nodes.pop(0)
+        self.kind, self.param, self.rows, self.skip, kids, self.validity, self.first, self.second, self.length, self.nulls = nodes.pop(0)
         need(1 <= self.kind < len(NAMES), f"there is no kind {self.kind}")
         need(self.param in PARAMS.get(self.kind, (0,)), f"param {self.param} of a {NAMES[self.kind]} node")
         need(KIDS.get(self.kind, kids) == kids, f"{kids} children of a {NAMES[self.kind]} node")
@@ -53,6 +54,14 @@ class Node:
 
     def bit(self, at, index):
         return self.bytes(at + index // 8, 1)[0] >> index % 8 & 1
+
+    def null_count(self):
+        """How many rows are null."""
+        if self.validity == NO_BITMAP:
+            return 0
+        places = self.skip + self.rows
+        bits = int.from_bytes(self.bytes(self.validity, (places + 7) // 8), "little")
+        return self.rows - bin((bits & (1 << places) - 1) >> self.skip).count("1")
 
     def run(self, place):
         """The run in which a place lies: the first that ends past it."""
@@ -128,7 +137,7 @@ def text(data):
 
 def read(data):
     need(16 <= len(data) <= PACK_LIMIT, f"{len(data)} bytes")
-    need(data[-4:] == b"COLP", "no mark at its end")
+    need(data[-4:] in (MARK, OLD_MARK), "no mark at its end")
     start, count, rows = struct.unpack("<3I", data[-16:-4])
     need(1 <= count <= NODE_LIMIT, f"{count} nodes")
     need(start + 40 * count == len(data) - 16, "the node table does not end at the trailer")
@@ -136,14 +145,21 @@ def read(data):
     root = Node(data[:start], nodes, 1)
     need(not nodes, "nodes are left over")
     need(root.rows == rows, "the trailer has other rows than the root")
+    for column in (root, *columns(root)):
+        if data[-4:] == MARK:
+            need(column.nulls == column.null_count(), f"a null count of {column.nulls}, and {column.null_count()} rows are null")
     return root
 
 
+def columns(root):
+    """The columns of the table."""
+    return root.kids if root.kind == 10 and root.validity == NO_BITMAP and root.kids else [root]
+
+
 def table(root):
-    columns = root.kids if root.kind == 10 and root.validity == NO_BITMAP and root.kids else [root]
     shown = range(min(root.rows, ROWS_SHOWN))
-    cells = [["row", *map(str, shown)]] + [[c.title(), *map(c.cell, shown)] for c in columns]
-    plain = [True] + [c.kind == 2 for c in columns]
+    cells = [["row", *map(str, shown)]] + [[c.title(), *map(c.cell, shown)] for c in columns(root)]
+    plain = [True] + [c.kind == 2 for c in columns(root)]
     widths = [max(map(len, c)) for c in cells]
     for line in zip(*cells):
         yield "  ".join(x.rjust(w) if p else x.ljust(w) for x, w, p in zip(line, widths, plain)).rstrip()

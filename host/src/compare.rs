@@ -279,6 +279,12 @@ pub fn number_of(answer: &Answer) -> usize {
     }
 }
 
+/// How often each number came, those that did not left out.
+pub fn by_number(counts: &[u64]) -> String {
+    let came: Vec<String> = (0..counts.len()).filter(|&n| counts[n] != 0).map(|n| format!("{n}: {}", counts[n])).collect();
+    came.join(", ")
+}
+
 /// As program `extract` prints it.
 pub fn line(answer: &Answer) -> String {
     match answer {

@@ -25,6 +25,9 @@ pub enum Answer {
     Refused { number: u64, pack: Named },
 }
 
+/// The greatest number of a refusal.
+pub const LAST_REFUSAL: usize = 20;
+
 /// What `filter` is given; what is lent is as it stands before the call.
 #[derive(Debug, Clone, Copy)]
 pub struct Call<'a> {
@@ -46,17 +49,17 @@ pub struct Return {
     pub scratch: Vec<u8>,
 }
 
-/// The verdict on a journal: the number of the first condition of 1 to 8 that holds, 0 if none does.
+/// The verdict on a journal: the number of the first condition of 1 to 8, 20 that holds, 0 if none does.
 pub fn check(bytes: &[u8]) -> u64 {
     if bytes.len() < TRAILER_BYTES || bytes.len() > PACK_LIMIT {
         return 1;
     }
-    if bytes[bytes.len() - 4..] != MARK {
+    if !bytes.ends_with(&MARK) && !bytes.ends_with(&OLD_MARK) {
         return 2;
     }
     let Some(pack) = Pack::read(bytes) else { return 3 };
     let all = |holds: &dyn Fn(usize) -> bool| (0..pack.nodes.len()).all(holds);
-    if !all(&|i| fields_fit(&pack.nodes[i])) {
+    if !all(&|i| fields_fit(&pack.nodes[i], pack.counted)) {
         return 4;
     }
     if pack.parents.is_empty() || !all(&|i| child_fits(&pack, i)) {
@@ -71,10 +74,13 @@ pub fn check(bytes: &[u8]) -> u64 {
     if !all(&|i| content_fits(&pack, i)) {
         return 8;
     }
+    if pack.counted && !all(&|i| count_fits(&pack, i)) {
+        return 20;
+    }
     0
 }
 
-/// The verdict on a mask: 1 to 9, 0 if none holds.
+/// The verdict on a mask: 1 to 8, 20, 9, 0 if none holds.
 pub fn check_mask(bytes: &[u8]) -> u64 {
     match check(bytes) {
         0 if Pack::read(bytes).unwrap().nodes[0].kind != BITS => 9,
@@ -82,8 +88,8 @@ pub fn check_mask(bytes: &[u8]) -> u64 {
     }
 }
 
-/// 4: kind, param, kids number, bitmap where none may be, unused field.
-fn fields_fit(n: &Node) -> bool {
+/// 4: kind, param, kids number, bitmap where none may be, unused field; the last one is used where null counts are carried.
+fn fields_fit(n: &Node, counted: bool) -> bool {
     let param = match n.kind {
         NATIVE => [1, 2, 4, 8, 16, 32].contains(&n.param),
         FIXED => n.param <= 1024,
@@ -101,7 +107,7 @@ fn fields_fit(n: &Node) -> bool {
     let first = n.kind != STRUCT || n.first == 0;
     let second = matches!(n.kind, BYTES | LARGE_BYTES | LIST_VIEW | LARGE_LIST_VIEW) || n.second == 0;
     let second_length = matches!(n.kind, BYTES | LARGE_BYTES) || n.second_length == 0;
-    param && kids && bitmap && first && second && second_length && n.zero == 0
+    param && kids && bitmap && first && second && second_length && (counted || n.nulls == 0)
 }
 
 /// 5, of a closed tree: a child of views is native of width 1 with no bitmap.
@@ -185,6 +191,18 @@ fn content_fits(pack: &Pack, i: usize) -> bool {
         DICTIONARY => (0..rows).all(|row| !pack.valid(i, row) || (pack.first(i, skip + row) as i128) < child_rows(0)),
         _ => true,
     }
+}
+
+/// 20: as many rows from skip on are null as the node says.
+fn count_fits(pack: &Pack, i: usize) -> bool {
+    let n = &pack.nodes[i];
+    let mut nulls = 0;
+    for row in 0..n.rows as usize {
+        if !pack.valid(i, row) {
+            nulls += 1;
+        }
+    }
+    n.nulls == nulls
 }
 
 /// Entry `place` of `width` bytes of the buffer at `at`, two's complement.
@@ -307,7 +325,7 @@ pub fn write(journal: &Pack, kept: &[Vec<usize>]) -> Option<Vec<u8>> {
         }
     }
     raise(&mut body);
-    let extract = finish(body, &nodes);
+    let extract = finish_as(body, &nodes, MARK);
     (extract.len() <= PACK_LIMIT).then_some(extract)
 }
 
@@ -333,7 +351,8 @@ fn write_node(journal: &Pack, i: usize, kept: &[usize], body: &mut Vec<u8>) -> N
         let entry = |row: usize| at as usize + (skip + row) * width;
         kept.iter().flat_map(|&row| &journal.body[entry(row)..entry(row) + width]).copied().collect()
     };
-    if kept.iter().any(|&row| !journal.valid(i, row)) {
+    new.nulls = kept.iter().filter(|&&row| !journal.valid(i, row)).count() as u32;
+    if new.nulls != 0 {
         new.validity = put(body, &pack_bits(kept.iter().map(|&row| journal.valid(i, row))));
     }
     match n.kind {
@@ -423,7 +442,7 @@ struct Done {
     scratch: usize,
 }
 
-/// The conditions in their order: mask 1 to 9, 11; journal 1 to 8, 10, 12, 13, 14.
+/// The conditions in their order: mask 1 to 8, 20, 9, 11; journal 1 to 8, 20, 10, 12, 13, 14.
 fn accept(call: &Call) -> Result<Done, (u64, Named)> {
     let refuse = |holds: bool, number: u64, pack: Named| if holds { Err((number, pack)) } else { Ok(()) };
     let picks = accept_mask(call.mask, call.stated)?;
@@ -440,7 +459,7 @@ fn accept(call: &Call) -> Result<Done, (u64, Named)> {
     }
 }
 
-/// 1 to 9, and 11: the stated count is wrong.
+/// 1 to 8, 20, 9, and 11: the stated count is wrong.
 fn accept_mask(mask: &[u8], stated: Option<u64>) -> Result<Picks, (u64, Named)> {
     let verdict = check_mask(mask);
     if verdict != 0 {

@@ -10,8 +10,10 @@ pub const NODE_LIMIT: usize = 64;
 pub const DEPTH_LIMIT: usize = 8;
 pub const NODE_BYTES: usize = 40;
 pub const TRAILER_BYTES: usize = 16;
-/// The last four bytes of a pack.
-pub const MARK: [u8; 4] = [0x43, 0x4F, 0x4C, 0x50];
+/// The last four bytes of a pack whose nodes carry their null counts, and of every pack that is written.
+pub const MARK: [u8; 4] = [0x43, 0x4F, 0x4C, 0x51];
+/// Those of a pack whose nodes do not.
+pub const OLD_MARK: [u8; 4] = [0x43, 0x4F, 0x4C, 0x50];
 /// The validity field of a node with no bitmap.
 pub const NO_BITMAP: u32 = 0xFFFF_FFFF;
 
@@ -44,23 +46,24 @@ pub struct Node {
     pub first: u32,
     pub second: u32,
     pub second_length: u32,
-    pub zero: u32,
+    /// the null count, where the pack carries it
+    pub nulls: u32,
 }
 
 impl Node {
-    /// A node with no bitmap, no skip, and no buffer placed.
+    /// A node with no bitmap, no skip, no null count, and no buffer placed.
     pub fn new(kind: u32, param: u32, rows: usize, kids: usize) -> Self {
         let (rows, kids) = (rows as u32, kids as u32);
-        Self { kind, param, rows, skip: 0, kids, validity: NO_BITMAP, first: 0, second: 0, second_length: 0, zero: 0 }
+        Self { kind, param, rows, skip: 0, kids, validity: NO_BITMAP, first: 0, second: 0, second_length: 0, nulls: 0 }
     }
     pub fn from_fields(f: [u32; 10]) -> Self {
-        let [kind, param, rows, skip, kids, validity, first, second, second_length, zero] = f;
-        Self { kind, param, rows, skip, kids, validity, first, second, second_length, zero }
+        let [kind, param, rows, skip, kids, validity, first, second, second_length, nulls] = f;
+        Self { kind, param, rows, skip, kids, validity, first, second, second_length, nulls }
     }
     pub fn fields(&self) -> [u32; 10] {
         [
             self.kind, self.param, self.rows, self.skip, self.kids, self.validity, self.first, self.second, self.second_length,
-            self.zero,
+            self.nulls,
         ]
     }
     /// Rows in the node's own buffers, those passed over included.
@@ -77,6 +80,14 @@ impl Node {
             _ => self.param as usize,
         }
     }
+    /// The row, counted after skip, is valid by the node's bitmap in this body.
+    fn valid(&self, body: &[u8], row: usize) -> bool {
+        self.validity == NO_BITMAP || bit(body, self.validity as usize, self.skip as usize + row)
+    }
+    /// How many rows are null.
+    fn null_count(&self, body: &[u8]) -> usize {
+        (0..self.rows as usize).filter(|row| !self.valid(body, *row)).count()
+    }
     /// The child goes along with all its rows.
     pub fn carries(&self) -> bool {
         matches!(self.kind, VIEWS | LIST_VIEW | LARGE_LIST_VIEW | DICTIONARY)
@@ -92,6 +103,8 @@ impl Node {
 pub struct Pack<'a> {
     pub body: &'a [u8],
     pub nodes: Vec<Node>,
+    /// by its mark the nodes carry their null counts
+    pub counted: bool,
     /// rows as the trailer says
     pub root_rows: u32,
     /// each node's parent; empty if the nodes form no tree
@@ -112,7 +125,8 @@ impl<'a> Pack<'a> {
             .map(|i| Node::from_fields(std::array::from_fn(|f| number(bytes, start + NODE_BYTES * i + 4 * f, 4) as u32)))
             .collect();
         let parents = parents(&nodes).unwrap_or_default();
-        Some(Self { body: &bytes[..start], nodes, root_rows: number(bytes, trailer + 8, 4) as u32, parents })
+        let root_rows = number(bytes, trailer + 8, 4) as u32;
+        Some(Self { body: &bytes[..start], nodes, counted: bytes.ends_with(&MARK), root_rows, parents })
     }
 
     /// The node's children, in order.
@@ -128,8 +142,7 @@ impl<'a> Pack<'a> {
 
     /// The row, counted after skip, is valid.
     pub fn valid(&self, node: usize, row: usize) -> bool {
-        let n = &self.nodes[node];
-        n.validity == NO_BITMAP || bit(self.body, n.validity as usize, n.skip as usize + row)
+        self.nodes[node].valid(self.body, row)
     }
 }
 
@@ -166,12 +179,18 @@ pub fn bit(bytes: &[u8], at: usize, i: usize) -> bool {
     bytes[at + i / 8] >> (i % 8) & 1 == 1
 }
 
-/// A pack from its body and its nodes.
-pub fn finish(mut body: Vec<u8>, nodes: &[Node]) -> Vec<u8> {
+/// A pack from its body and its nodes, with their true null counts; the bitmaps lie in the body.
+pub fn finish(body: Vec<u8>, nodes: &[Node]) -> Vec<u8> {
+    let nodes: Vec<Node> = nodes.iter().map(|n| Node { nulls: n.null_count(&body) as u32, ..*n }).collect();
+    finish_as(body, &nodes, MARK)
+}
+
+/// A pack from its body, its nodes as they are, and its mark.
+pub fn finish_as(mut body: Vec<u8>, nodes: &[Node], mark: [u8; 4]) -> Vec<u8> {
     let start = body.len() as u32;
     for field in nodes.iter().flat_map(|n| n.fields()).chain([start, nodes.len() as u32, nodes[0].rows]) {
         body.extend(field.to_le_bytes());
     }
-    body.extend(MARK);
+    body.extend(mark);
     body
 }

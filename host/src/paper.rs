@@ -298,6 +298,50 @@ pub fn true_views() -> Vec<Case> {
     ]
 }
 
+/// Null counts, worked out by hand from the rules.
+pub fn null_counts() -> Vec<Case> {
+    let case = |name, slots, journal, line| Case::new(name, mask(slots), journal, line);
+    // 1, null and 3, behind a null row that is passed over
+    let column = |mark, nulls| {
+        let body = [numbers(&[9, 1, 2, 3]), vec![0b1010]].concat();
+        finish_as(body, &[Node { skip: 1, validity: 16, nulls, ..node(NATIVE, 4, 3, 0, 0) }], mark)
+    };
+    // a good pack whose node `i` says that one row is null
+    let saying_one = |pack: Vec<u8>, i: usize| {
+        let read = Pack::read(&pack).unwrap();
+        let mut nodes = read.nodes.clone();
+        nodes[i].nulls = 1;
+        finish_as(read.body.to_vec(), &nodes, MARK)
+    };
+    let mask_saying = |nulls| finish_as(vec![0b101, 0b1101], &[Node { validity: 1, nulls, ..node(BITS, 0, 4, 0, 0) }], MARK);
+    let falling = finish_as(numbers(&[0, 3, 2, 0]), &[Node { second: 12, nulls: 1, ..node(BYTES, 0, 2, 0, 0) }], MARK);
+    let union = finish(vec![0, 7], &[node(UNION, 0, 1, 1, 0), node(NATIVE, 1, 1, 0, 1)]);
+    let one_null = [numbers(&[1, 0, 1, 2, 2, 4, 2, 0, 0, 0, 8, 0, 0, 1, 16, 1, 2]), MARK.to_vec()].concat();
+    let no_null = [numbers(&[1, 3, 2, 4, 2, 0, 0, NO_BITMAP, 0, 0, 0, 0, 8, 1, 2]), MARK.to_vec()].concat();
+    let no_bitmap = "null counts: one without a bitmap";
+    vec![
+        case("null counts: one kept", "TTF", column(MARK, 1), "rows 2 of 3 route indices bytes 72").with(0, &one_null),
+        case("null counts: one kept, old mark", "TTF", column(OLD_MARK, 0), "rows 2 of 3 route indices bytes 72")
+            .with(0, &one_null),
+        case("null counts: none kept", "TFT", column(MARK, 1), "rows 2 of 3 route indices bytes 64").with(0, &no_null),
+        case("null counts: the row passed over too", "TTF", column(MARK, 2), "refused 20 journal"),
+        case("null counts: one too few", "TTF", column(MARK, 0), "refused 20 journal"),
+        case("null counts: far too many", "TTF", column(MARK, u32::MAX), "refused 20 journal"),
+        case("null counts: the old mark has none", "TTF", column(OLD_MARK, 1), "refused 4 journal"),
+        case(no_bitmap, "T", saying_one(native(&[1]), 0), "refused 20 journal"),
+        case(no_bitmap, "T", saying_one(runs(&[1], 0, 1), 0), "refused 20 journal"),
+        case(no_bitmap, "T", saying_one(union.clone(), 0), "refused 20 journal"),
+        case("null counts: of a child", "T", saying_one(union, 1), "refused 20 journal"),
+        case("null counts: 8 before 20", "T", falling, "refused 8 journal"),
+        case("null counts: 20 before 10", "TTTT", column(MARK, 2), "refused 20 journal"),
+        Case::new("null counts: of a mask", mask_saying(1), native(&[1, 2, 3, 4]), "rows 2 of 4 route indices bytes 64"),
+        Case::new("null counts: of a mask, wrong", mask_saying(3), native(&[1, 2, 3, 4]), "refused 20 mask"),
+        Case::new("null counts: 20 before 9", column(MARK, 2), native(&[1, 2, 3]), "refused 20 mask"),
+        Case { stated: Some(9), ..Case::new("null counts: 20 before 11", mask_saying(0), native(&[1]), "refused 20 mask") },
+        Case { stated: Some(9), ..case("null counts: 11 before a journal's 20", "T", column(MARK, 2), "refused 11 mask") },
+    ]
+}
+
 /// A struct whose extract by one more `data` byte passes a multiple of 8: 31 fixed children over one buffer, and bytes.
 fn large(data: usize) -> Vec<u8> {
     let (rows, width) = (512, 1024);

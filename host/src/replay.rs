@@ -2,7 +2,7 @@
 //! crates/calls. Answers are the model's, which are compared with filter.rs's before they are written.
 use crate::compare::{self, Terms};
 use crate::make::{self, Rng, damage};
-use crate::model::{self, Answer, Call, Picks};
+use crate::model::{self, Answer, Call, LAST_REFUSAL, Picks};
 use crate::pack::*;
 use std::fmt::Write;
 use std::{fs, io, path::Path};
@@ -72,7 +72,7 @@ pub fn case(r: &mut Rng, i: u64) -> Case {
 pub struct Replay {
     given: String,
     expected: String,
-    pub answers: [u64; 15],
+    pub answers: [u64; LAST_REFUSAL + 1],
     pub lazy: [u64; 4],
     pub stored: [u64; 4],
     pub kinds: [u64; KINDS + 1],

@@ -24,7 +24,7 @@ impl<F: Fn(&Call) -> Return> Port for Faulty<F> {
     }
 }
 
-/// Differences found in a run of 2000 cases.
+/// Differences found in a run of 4000 cases.
 fn differences(port: &dyn Port) -> usize {
     let found = |i: &u64| {
         let mut r = Rng::new(*i);
@@ -34,7 +34,7 @@ fn differences(port: &dyn Port) -> usize {
         }
         compare::with_port(port, &mut r, &mask, &journal).is_err()
     };
-    (0..2000).filter(found).count()
+    (0..4000).filter(found).count()
 }
 
 /// The port with this `filter` is told from the model.
@@ -209,7 +209,7 @@ fn stores_a_list_not_asked_for() {
 fn stores_the_list_before_a_refusal() {
     is_noticed(|call| {
         let mut end = model::filter(call);
-        if call.asked && compare::number_of(&end.answer) >= 13 {
+        if call.asked && matches!(compare::number_of(&end.answer), 13 | 14) {
             let entries = Picks::of(call.mask).entries();
             end.list[..entries.len()].copy_from_slice(&entries);
         }
@@ -399,10 +399,69 @@ fn looks_at_no_unused_byte_of_a_view() {
     });
 }
 
-/// The model, with its verdict on journals replaced.
-struct Lax<F: Fn(&[u8]) -> u64>(F);
+/// The pack, where 20 holds of it, with its true null counts; any other as it is.
+fn counted_anew(bytes: &[u8]) -> Vec<u8> {
+    match model::check(bytes) {
+        20 => {
+            let pack = Pack::read(bytes).unwrap();
+            finish(pack.body.to_vec(), &pack.nodes)
+        }
+        _ => bytes.to_vec(),
+    }
+}
 
-impl<F: Fn(&[u8]) -> u64> Port for Lax<F> {
+#[test]
+fn trusts_null_counts() {
+    is_noticed(|call| model::filter(&Call { journal: &counted_anew(call.journal), ..*call }));
+}
+
+/// The call by a port that writes something else into its extracts' null counts and marks.
+fn with_extract(call: &Call, change: impl Fn(&Pack) -> Vec<u8>) -> Return {
+    let mut end = model::filter(call);
+    if let Answer::Done { bytes, .. } = end.answer {
+        let new = change(&Pack::read(&end.output[..bytes as usize]).unwrap());
+        end.output[..bytes as usize].copy_from_slice(&new);
+    }
+    end
+}
+
+/// The extract with other null counts.
+fn with_counts(pack: &Pack, count: impl Fn(&Node) -> u32) -> Vec<u8> {
+    let nodes: Vec<Node> = pack.nodes.iter().map(|n| Node { nulls: count(n), ..*n }).collect();
+    finish_as(pack.body.to_vec(), &nodes, MARK)
+}
+
+#[test]
+fn writes_the_old_mark() {
+    is_noticed(|call| with_extract(call, |pack| finish_as(pack.body.to_vec(), &pack.nodes, OLD_MARK)));
+}
+
+#[test]
+fn writes_no_null_count() {
+    is_noticed(|call| with_extract(call, |pack| with_counts(pack, |_| 0)));
+}
+
+#[test]
+fn writes_the_count_of_valid_rows() {
+    is_noticed(|call| with_extract(call, |pack| with_counts(pack, |n| if n.nulls == 0 { 0 } else { n.rows - n.nulls })));
+}
+
+#[test]
+fn writes_the_journal_s_null_counts() {
+    is_noticed(|call| {
+        with_extract(call, |pack| {
+            let journal = Pack::read(call.journal).unwrap();
+            let nodes: Vec<Node> =
+                pack.nodes.iter().zip(&journal.nodes).map(|(n, old)| Node { nulls: old.nulls, ..*n }).collect();
+            finish_as(pack.body.to_vec(), &nodes, MARK)
+        })
+    });
+}
+
+/// The model, with its verdicts on journals and on masks replaced.
+struct Lax<F: Fn(&[u8]) -> u64, G: Fn(&[u8]) -> u64>(F, G);
+
+impl<F: Fn(&[u8]) -> u64, G: Fn(&[u8]) -> u64> Port for Lax<F, G> {
     fn filter(&self, call: &Call) -> Result<Return, String> {
         Model.filter(call)
     }
@@ -413,8 +472,65 @@ impl<F: Fn(&[u8]) -> u64> Port for Lax<F> {
         self.0(pack)
     }
     fn check_mask(&self, mask: &[u8]) -> u64 {
-        model::check_mask(mask)
+        self.1(mask)
     }
+}
+
+/// Another verdict on journals is told from the model's.
+#[track_caller]
+fn verdict_is_noticed(check: impl Fn(&[u8]) -> u64) {
+    assert_ne!(differences(&Lax(check, model::check_mask)), 0);
+}
+
+#[test]
+fn refuses_the_old_mark() {
+    verdict_is_noticed(|bytes| if bytes.ends_with(&OLD_MARK) { 2 } else { model::check(bytes) });
+}
+
+#[test]
+fn counts_nulls_of_old_packs() {
+    verdict_is_noticed(|bytes| match model::check(bytes) {
+        0 => {
+            let pack = Pack::read(bytes).unwrap();
+            let null = (0..pack.nodes.len()).any(|i| (0..pack.nodes[i].rows as usize).any(|row| !pack.valid(i, row)));
+            if null && !pack.counted { 20 } else { 0 }
+        }
+        verdict => verdict,
+    });
+}
+
+#[test]
+fn counts_nulls_of_rows_passed_over() {
+    verdict_is_noticed(|bytes| match model::check(bytes) {
+        verdict @ (0 | 20) => {
+            let pack = Pack::read(bytes).unwrap();
+            let null = |n: &Node, place: usize| n.validity != NO_BITMAP && !bit(pack.body, n.validity as usize, place);
+            let wrong = |n: &Node| (0..n.span()).filter(|place| null(n, *place)).count() != n.nulls as usize;
+            if pack.counted { if pack.nodes.iter().any(wrong) { 20 } else { 0 } } else { verdict }
+        }
+        verdict => verdict,
+    });
+}
+
+#[test]
+fn says_20_before_8() {
+    verdict_is_noticed(|bytes| match model::check(bytes) {
+        8 => {
+            let pack = Pack::read(bytes).unwrap();
+            let nulls = |i: usize| (0..pack.nodes[i].rows as usize).filter(|row| !pack.valid(i, *row)).count();
+            if pack.counted && (0..pack.nodes.len()).any(|i| nulls(i) != pack.nodes[i].nulls as usize) { 20 } else { 8 }
+        }
+        verdict => verdict,
+    });
+}
+
+#[test]
+fn says_9_before_20() {
+    let check_mask = |bytes: &[u8]| match model::check_mask(bytes) {
+        20 if Pack::read(bytes).unwrap().nodes[0].kind != BITS => 9,
+        verdict => verdict,
+    };
+    assert_ne!(differences(&Lax(model::check, check_mask)), 0);
 }
 
 /// Refusal 8 is not given to packs whose root is such a list.
@@ -424,7 +540,7 @@ fn leniency_is_noticed(list: impl Fn(&Pack) -> bool) {
         8 if Pack::read(bytes).is_some_and(|pack| pack.nodes[0].is_list() && list(&pack)) => 0,
         verdict => verdict,
     };
-    assert_ne!(differences(&Lax(lax)), 0);
+    verdict_is_noticed(lax);
 }
 
 #[test]

@@ -1,17 +1,18 @@
 -- What putting one node's buffers and fields asks of the journal, and that all its fields fit in 32 bits. Assumes nothing.
 use Prim.Native.Nat.{ℕ, _+_, _*_, _≤_, _<_}
 use mathlib.Core.Path.{_≡_, refl, _∙_}
-use mathlib.Core.List.{List, [], _∷_}
+use mathlib.Core.List.{List, [], _∷_, map}
 use native.Mathlib.Omega.{arith}
 use lib.ListN.{length, set, length-append, length-map}
 use Rattle.format.specs.declared.Kind.{Kind}
 use Rattle.format.specs.Accepted.{Sound}
 use Rattle.format.specs.Bytes.{join}
 use Rattle.format.specs.Kept.{Cells, flags, entries, texts, ranges, groups, spans, nothing, KeptNode, keptNode}
-use Rattle.format.specs.Node.{noBitmap, nodeCount, kindOf, kind, rows, places, child}
+use Rattle.format.specs.Node.{noBitmap, nodeCount, kindOf, kind, rows, places, valid, child}
 use Rattle.format.specs.Put.{put}
 use Rattle.format.specs.Verdict.{packLimit}
 use Rattle.format.specs.Write.{Buffer, bitmap, first, second, dataLength}
+use Rattle.format.proofs.NullLaws.{few-nulls}
 use Rattle.format.proofs.Put.{Left, whole, stored, done}
 use Rattle.format.proofs.SlotLaws.{count-le}
 use Rattle.append.specs.Cells.{padding}
@@ -46,7 +47,7 @@ unfolding places
 count-few {sel = sel} {s} {bits} sound inside c =
     omega (arith, count-le (keptBy sel s bits) (bits .len) 0, c .short, sound .agree .limit _ inside)
 
--- ---- its starts and its data are small
+-- ---- its starts, its data and its nulls are small
 
 data-within : (at : ℕ) (c : Cells) → dataLength c ≤ ending at (second c)
 unfolding dataLength second ending appended
@@ -84,6 +85,11 @@ module _ {k : KeptNode} {old : List ℕ} {at : ℕ} {new : List ℕ} {r : Buffer
   pub data-fits : r .data ≤ packLimit
   data-fits = rw (a .size) (omega (arith, all-end, data-within (ending (ending at (bitmap (k .marks))) (first (k .values))) (k .values)))
 
+pub nulls-fit : (b : List ℕ) (i : ℕ) (rs : List ℕ) {old : List ℕ} {at : ℕ} {new : List ℕ} {r : Buffers} → Added (keptNode b i rs) old at new r → length rs ≤ 1_048_576
+    → r .nulls ≤ 1_048_576
+unfolding keptNode
+nulls-fit b i rs a few = rw (a .counted) (omega (arith, few-nulls (map (valid b i) rs), length-map rs (valid b i)))
+
 -- ---- its fields
 
 -- ten stores in a row
@@ -106,10 +112,10 @@ ten-stores old at k p n z c v f s d y =
 
 pub written-of : (b : List ℕ) (i : ℕ) (rs : List ℕ) {old : List ℕ} {at : ℕ} {new : List ℕ} {r : Buffers} → Added (keptNode b i rs) old at new r
     → (node : Node) (n : ℕ) (fields after : List ℕ) → node ≡ nodeOf b i → n ≡ length rs
-    → after ≡ put fields (10 * i) (node .kind ∷ node .param ∷ n ∷ 0 ∷ node .kids ∷ r .validity ∷ r .first ∷ r .second ∷ r .data ∷ 0 ∷ [])
+    → after ≡ put fields (10 * i) (node .kind ∷ node .param ∷ n ∷ 0 ∷ node .kids ∷ r .validity ∷ r .first ∷ r .second ∷ r .data ∷ r .nulls ∷ [])
     → Written (columnOf b i) (keptNode b i rs) i old at new (r .next) fields after
 unfolding nodeFields keptNode
 written-of b i rs a node n fields after is e p = record {
   body = a .wrote;
-  nodes = p ∙ rw (is, e, a .bitmapStart, a .firstStart, a .secondStart, a .size, length-map);
+  nodes = p ∙ rw (is, e, a .bitmapStart, a .firstStart, a .secondStart, a .size, a .counted, length-map);
 }

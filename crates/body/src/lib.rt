@@ -27,7 +27,7 @@ use predicate::Selection;
 use regions::rows_of;
 use slots::Bits;
 
-// Ten numbers at place `at` of a list of fields: those of a node that keeps `kept` rows.
+// Ten numbers at place `at` of a list of fields: those of a node that keeps `kept` rows, of which `nulls` are null.
 fn put_node(
     fields: &mut [u32],
     at: usize,
@@ -39,9 +39,10 @@ fn put_node(
     f: u32,
     s: u32,
     d: u32,
+    nulls: u32,
 )
     requires { ⌜ at + 10 ≤ length (now fields) ⌝ }
-    ensures { λ _. ⌜ now (fields .exit) ≡ put (now (fields .entry)) at (kind ∷ param ∷ kept ∷ 0 ∷ kids ∷ v ∷ f ∷ s ∷ d ∷ 0 ∷ []) ⌝ }
+    ensures { λ _. ⌜ now (fields .exit) ≡ put (now (fields .entry)) at (kind ∷ param ∷ kept ∷ 0 ∷ kids ∷ v ∷ f ∷ s ∷ d ∷ nulls ∷ []) ⌝ }
 {
     fields[at] = kind;
     fields[at + 1] = param;
@@ -52,7 +53,7 @@ fn put_node(
     fields[at + 6] = f;
     fields[at + 7] = s;
     fields[at + 8] = d;
-    fields[at + 9] = 0;
+    fields[at + 9] = nulls;
 }
 
 // Node i, where a selection of its rows is at hand: its buffers behind the body, and its fields. Where the body ends then.
@@ -105,6 +106,7 @@ fn put_kept(
         b.first as u32,
         b.second as u32,
         b.data as u32,
+        b.nulls as u32,
     );
     b.next
 }
@@ -144,6 +146,7 @@ fn put_listed(
         b.first as u32,
         b.second as u32,
         b.data as u32,
+        b.nulls as u32,
     );
     b.next
 }

@@ -4,7 +4,7 @@ ghost use Rattle.format.specs.Answer.{callOf, preparing, statedIf};
 ghost use Rattle.format.specs.Verdict.{journalVerdict, maskVerdict};
 ghost use Rattle.entries.specs.Numbers.{Entered, Called};
 
-// The verdict on a journal: 0 if it is accepted, else 1 to 8.
+// The verdict on a journal: 0 if it is accepted, else 1 to 8 or 20.
 #[no_mangle]
 pub extern "C" fn check(bytes: &[u8]) -> u64
     ensures { λ r. ⌜ r ≡ journalVerdict (now (bytes .entry)) ⌝ }
@@ -12,7 +12,7 @@ pub extern "C" fn check(bytes: &[u8]) -> u64
     entries::check(bytes)
 }
 
-// The verdict on a mask: 0 if it is accepted, else 1 to 9.
+// The verdict on a mask: 0 if it is accepted, else 1 to 9 or 20.
 #[no_mangle]
 pub extern "C" fn check_mask(bytes: &[u8]) -> u64
     ensures { λ r. ⌜ r ≡ maskVerdict (now (bytes .entry)) ⌝ }

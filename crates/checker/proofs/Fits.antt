@@ -1,12 +1,12 @@
 -- Refusal 4: a node's fields against its kind's row of the table of kinds. Assumes nothing.
 use Prim.Native.Nat.{ℕ}
-use mathlib.Core.Bool.{Bool, true, false, not, _||_, or-assoc, or-false}
+use mathlib.Core.Bool.{Bool, true, not, _||_, or-assoc, or-false}
 use mathlib.Core.List.{List, [], _∷_}
 use mathlib.Core.Path.{_≡_, sym, ap, _∙_}
 use lib.Dec.{eqb}
 use Rattle.format.specs.declared.Kind.{Kind}
 use Rattle.format.specs.declared.Kind.the-variants.{Unknown}
-use Rattle.format.specs.Node.{noBitmap, kindOf, kind, hasNoBitmap}
+use Rattle.format.specs.Node.{carriesCounts, noBitmap, kindOf, kind, hasNoBitmap}
 use Rattle.format.specs.Verdict.{layout, oneOf, misused, badFields}
 use Rattle.pack.specs.declared.Node.{Node}
 use Rattle.pack.specs.Read.{nodeOf}
@@ -20,12 +20,12 @@ module _ (b : List ℕ) (i : ℕ) {n : Node} {k : Kind} (read : n ≡ nodeOf b i
   kind-is : {K : Kind} → k ≡ K → kind b i ≡ K
   kind-is e = kind-read b i read ∙ sym known ∙ e
 
-  pub row-is : {K : Kind} → k ≡ K → {p c r : Bool} → p ≡ layout K .params (n .param) → c ≡ layout K .children (n .kids)
+  pub row-is : {K : Kind} → k ≡ K → {p c r u : Bool} → u ≡ carriesCounts b → p ≡ layout K .params (n .param) → c ≡ layout K .children (n .kids)
       → r ≡ (not p || not c || not (layout K .bitmap || eqb (n .«validity_at») noBitmap) || misused (layout K .first) (n .«first_at»)
-      || misused (layout K .second) (n .«second_at») || misused (layout K .dataLength) (n .«second_length») || misused false (n .«last_field»))
+      || misused (layout K .second) (n .«second_at») || misused (layout K .dataLength) (n .«second_length») || misused u (n .«last_field»))
       → r ≡ badFields (layout (kind b i)) b i
   unfolding badFields hasNoBitmap
-  row-is e ep ec er = er ∙ rw (kind-is e, ep, ec, read)
+  row-is e eu ep ec er = er ∙ rw (kind-is e, eu, ep, ec, read)
 
   pub no-kind : k ≡ Unknown → true ≡ badFields (layout (kind b i)) b i
   unfolding badFields oneOf

@@ -146,7 +146,7 @@ module _ {b : List ℕ} {i : ℕ} {n : Node} {k : Kind} {m : ℕ} (l : Looked b 
     omega (arith, first-in e, mul-add (n .param) (n .skip) (n .rows)),
   )
 
-  has-bitmap : (n .«validity_at» ≡ noBitmap → ⊥) → hasNoBitmap b i ≡ false
+  pub has-bitmap : (n .«validity_at» ≡ noBitmap → ⊥) → hasNoBitmap b i ≡ false
   unfolding hasNoBitmap
   has-bitmap h = ne-eqb _ _ (rw (l .read) at h)
 

@@ -3,4 +3,5 @@ pub mod Children
 pub mod Fits
 pub mod Sizes
 pub mod Inside
+pub mod Counts
 pub mod Order

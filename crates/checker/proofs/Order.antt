@@ -1,34 +1,29 @@
 -- The order of the refusals: a mask is tried as a journal is, and then by its root. Assumes nothing.
-use Prim.Native.Nat.{ℕ, suc, _+_}
-use mathlib.Core.Bool.{Bool, true, false}
+use Prim.Native.Nat.{ℕ}
+use mathlib.Core.Bool.{true, false}
 use mathlib.Core.List.{List, [], _∷_, _++_}
-use mathlib.Core.Path.{_≡_, refl, sym, ap, _∙_}
-use native.Mathlib.Nat.{add-zero}
-use native.Mathlib.Omega.{arith}
-use lib.ListN.{length}
-use Rattle.format.specs.Verdict.{wrongRoot, conditions, firstOf, journalVerdict, maskVerdict}
+use mathlib.Core.Path.{_≡_, refl, sym, _∙_}
+use Rattle.format.specs.Verdict.{wrongRoot, Condition, condition, conditions, firstOf, journalVerdict, maskVerdict}
+use Rattle.format.proofs.Laws.{Accepted, accepted}
 
--- one that holds comes before all that follow; where none holds, those that follow are counted on
-first-kept : (n : ℕ) (cs ds : List Bool) → (firstOf n cs ≡ 0 → ⊥) → firstOf n (cs ++ ds) ≡ firstOf n cs
+-- one that holds comes before all that follow
+first-kept : (cs ds : List Condition) → (firstOf cs ≡ 0 → ⊥) → firstOf (cs ++ ds) ≡ firstOf cs
 unfolding firstOf
-first-kept n [] ds h = absurd (h refl)
-first-kept n (true ∷ cs) ds h = refl
-first-kept n (false ∷ cs) ds h = first-kept (suc n) cs ds h
-
-first-none : (n : ℕ) (cs ds : List Bool) → firstOf (suc n) cs ≡ 0 → firstOf (suc n) (cs ++ ds) ≡ firstOf (suc n + length cs) ds
-unfolding firstOf
-first-none n [] ds h = rw add-zero
-first-none n (true ∷ cs) ds h = absurd (omega arith)
-first-none n (false ∷ cs) ds h = first-none (suc n) cs ds h ∙ ap (λ (k : ℕ). firstOf k ds) (omega arith)
+first-kept [] ds h = absurd (h refl)
+first-kept (condition n true ∷ cs) ds h = refl
+first-kept (condition n false ∷ cs) ds h = first-kept cs ds h
 
 module _ (b : List ℕ) (v : ℕ) (e : v ≡ journalVerdict b) where
   pub refused-first : (v ≡ 0 → ⊥) → v ≡ maskVerdict b
   unfolding journalVerdict maskVerdict
-  refused-first h = e ∙ sym (first-kept 1 (conditions b) (wrongRoot b ∷ []) (rw e at h))
+  refused-first h = e ∙ sym (first-kept (conditions b) (condition 9 (wrongRoot b) ∷ []) (rw e at h))
 
-  root-last : v ≡ 0 → maskVerdict b ≡ firstOf 9 (wrongRoot b ∷ [])
-  unfolding journalVerdict maskVerdict conditions
-  root-last h = first-none 0 (conditions b) (wrongRoot b ∷ []) (sym e ∙ h)
+  -- where none of the pack's own conditions holds, the root's is left
+  root-last : v ≡ 0 → maskVerdict b ≡ firstOf (condition 9 (wrongRoot b) ∷ [])
+  unfolding maskVerdict conditions firstOf
+  root-last h =
+      let a : Accepted b = accepted b (sym e ∙ h) in
+      rw (a .size, a .marked, a .tabled, a .fields, a .tree, a .rowed, a .buffers, a .content, a .nulls)
 
   pub root-refused : v ≡ 0 → wrongRoot b ≡ true → 9 ≡ maskVerdict b
   unfolding firstOf

@@ -7,14 +7,14 @@ use format::Answer;
 use format::Pack;
 use format::Prepared;
 
-// The verdict on a journal: 0 if it is accepted, else 1 to 8.
+// The verdict on a journal: 0 if it is accepted, else 1 to 8 or 20.
 pub fn check(bytes: &[u8]) -> u64
     ensures { λ r. ⌜ r ≡ journalVerdict (now (bytes .entry)) ⌝ }
 {
     checker::check(bytes)
 }
 
-// The verdict on a mask: 0 if it is accepted, else 1 to 9.
+// The verdict on a mask: 0 if it is accepted, else 1 to 9 or 20.
 pub fn check_mask(bytes: &[u8]) -> u64
     ensures { λ r. ⌜ r ≡ maskVerdict (now (bytes .entry)) ⌝ }
 {

@@ -16,14 +16,14 @@ use Rattle.format.specs.Answer.{takesScratch, scratchNeeded}
 use Rattle.format.specs.Put.{Wrote}
 use Rattle.format.specs.Accepted.{Sound}
 use Rattle.format.proofs.Laws.{sum-more}
-use Rattle.format.proofs.Put.{none, then, same-size}
+use Rattle.format.proofs.Put.{bit-before, bit-put, none, then, same-size}
 use Rattle.nesting.specs.Rows.{keeps}
 use Rattle.nesting.proofs.ByKind.{rows-small}
 use Rattle.nesting.proofs.Scratch.{share, bytes-few, takes-one}
 use Rattle.marks.proofs.Stored.{length-rows}
 use Rattle.fill.specs.Scratch.{Bitmap, takesBitmap, Earlier, Filled}
 use Rattle.fill.proofs.Reading.{bitmap-takes}
-use Rattle.fill.proofs.Stored.{bit-before, bit-put, bit-rows}
+use Rattle.fill.proofs.Stored.{bit-rows}
 
 -- ---- the scratch needed is not much
 

@@ -13,11 +13,11 @@ use lib.ListN.{length, getD}
 use Rattle.format.specs.declared.Kind.{Kind}
 use Rattle.format.specs.declared.Kind.the-variants.{Bits, Native, Fixed, Bytes32, Bytes64, Views, Lists32, Lists64, Runs, Struct, Union, Dictionary, Nested32, Nested64, Unknown}
 use Rattle.format.specs.Bytes.{anyBelow, negative, bytesFor}
-use Rattle.format.specs.Node.{nodeCount, tableStart, rootRows, places, hasNoBitmap, noBitmap, validityAt, firstAt, kindNumber, kindOf, kind, ofKind, param, rows, skip, kids, secondAt, secondLength}
+use Rattle.format.specs.Node.{nodeCount, tableStart, rootRows, carriesCounts, nullCount, lastField, places, hasNoBitmap, noBitmap, validityAt, firstAt, kindNumber, kindOf, kind, ofKind, param, rows, skip, kids, secondAt, secondLength}
 use Rattle.format.specs.Node.{firstNumber, secondNumber, runEnd, runStart, valid, parent, depth, child, dataBuffer, Ancestor, ancestor, closed, oneLess, ancestors, innermost}
-use Rattle.format.specs.Verdict.{packLimit, wrongSize, wrongTable, wrongFields, wrongTree, wrongRows, wrongBuffers, wrongContent, wrongRoot, journalVerdict, maskVerdict}
-use Rattle.format.specs.Verdict.{badFields, layout, oneOf, notClosed, empty, badDataBuffer, badChildRows, badBuffers, firstSize, secondSize, badContent, badRuns, badOffsets, badView, badLong, badShort, badRange, viewField}
-use Rattle.format.specs.Accepted.{OneChild, Shares, Carries, Nests, Inner, shared, byRuns, carried, bySpans, DataBuffer, Shape, Fields, InBody, Offsets, Spans, ViewLies, RunEnds, Sound, SoundMask}
+use Rattle.format.specs.Verdict.{packLimit, wrongSize, wrongTable, wrongFields, wrongTree, wrongRows, wrongBuffers, wrongContent, wrongNulls, wrongRoot, journalVerdict, maskVerdict}
+use Rattle.format.specs.Verdict.{badFields, misused, layout, oneOf, notClosed, empty, badDataBuffer, badChildRows, badBuffers, firstSize, secondSize, badContent, badRuns, badOffsets, badView, badLong, badShort, badRange, viewField}
+use Rattle.format.specs.Accepted.{OneChild, Shares, Carries, Nests, Inner, shared, byRuns, carried, bySpans, DataBuffer, Shape, Fields, InBody, CountsNulls, Offsets, Spans, ViewLies, RunEnds, Sound, SoundMask}
 use Rattle.format.specs.Accepted as is
 use Rattle.format.proofs.Laws.{any-none, Accepted, accepted, accepted-mask, parent-before}
 
@@ -276,6 +276,22 @@ module _ (b : List ℕ) (i : ℕ) (h : i < nodeCount b) where
     unfolding badFields
     kids-right = not-false _ (or-right (not (layout (kind b i) .params (param b i))) _ (or-left _ _ (or-left _ _ (or-left _ _ (or-left _ _ (or-left _ _ fields-right))))))
 
+    last-unused : carriesCounts b ≡ false → lastField b i ≡ 0
+    unfolding badFields misused
+    last-unused old =
+        let f : (carriesCounts b || eqb (lastField b i) 0) ≡ true =
+        not-false _
+        (or-right
+        (not (layout (kind b i) .params (param b i))
+        || not (layout (kind b i) .children (kids b i))
+        || not (layout (kind b i) .bitmap || hasNoBitmap b i)
+        || misused (layout (kind b i) .first) (firstAt b i)
+        || misused (layout (kind b i) .second) (secondAt b i)
+        || misused (layout (kind b i) .dataLength) (secondLength b i))
+        _
+        fields-right) in
+        eqb-true _ _ (rw old at f)
+
   pub places-few : wrongRows b ≡ false → places b i ≤ 1_048_576
   unfolding wrongRows
   places-few e = ltb-false _ _ (any-none (λ i. ltb 1_048_576 (places b i)) (nodeCount b) i h (or-left _ _ (or-left _ _ e)))
@@ -396,6 +412,18 @@ module _ (b : List ℕ) (a : Accepted b) where
 
     in-body : InBody b i
     in-body = record { bitmap = bitmap-inside b i h (a .buffers); first = first-inside b i h (a .buffers); second = second-inside b i h (a .buffers) }
+
+    counts-nulls : CountsNulls b i
+    unfolding wrongNulls
+    counts-nulls =
+        record {
+          carried = λ e.
+              eqb-true _ _
+              (not-false _
+              (any-none (λ k. not (eqb (lastField b k) (nullCount b k))) (nodeCount b) i h
+              (and-right (carriesCounts b) (anyBelow (λ k. not (eqb (lastField b k) (nullCount b k))) (nodeCount b)) (a .nulls) e)));
+          old = last-unused b i h (a .fields);
+        }
 
     content-right : (k : Kind) → kind b i ≡ k → badContent k b i ≡ false
     unfolding wrongContent
@@ -610,6 +638,7 @@ module _ (b : List ℕ) (a : Accepted b) where
         agree = record { limit = λ i h. places-few b i h (a .rowed); root = root-rows; same = rows-same };
         fields = fields-are;
         inBody = in-body;
+        nulls = counts-nulls;
         offsets32 = offsets32-are;
         offsets64 = offsets64-are;
         views = λ i r h e l. view-lies i h r e l;

@@ -17,7 +17,7 @@ use Rattle.format.specs.Bytes.{table, join, padded, one}
 use Rattle.format.specs.Words as Words
 use Rattle.format.specs.Words.{compress}
 use Rattle.format.specs.Node as Node
-use Rattle.format.specs.Node.{mark, noBitmap}
+use Rattle.format.specs.Node.{mark, oldMark, noBitmap}
 use Rattle.format.specs.Verdict as Verdict
 use Rattle.format.specs.Mask as Masks
 use Rattle.format.specs.Mask.{byRoute}
@@ -29,13 +29,22 @@ use Rattle.format.specs.Answer as Answers
 use Rattle.format.specs.Answer.{Call, Stated, unstated, stated, answer, outputAfter, listAfter, scratchAfter}
 use Rattle.format.proofs.Demand3.{Alike}
 
--- a pack from its body, its nodes' fields, and the trailer's rows
-unfoldable pub pack : List ℕ → List (List ℕ) → ℕ → List ℕ
-pack body nodes rows = padded body ++ join (map (numbers 4) nodes) ++ numbers 4 (length (padded body) ∷ length nodes ∷ rows ∷ mark ∷ [])
+-- a pack from its mark, its body, its nodes' fields, and the trailer's rows; one with the mark that is written, and one with the old mark
+unfoldable pub marked : ℕ → List ℕ → List (List ℕ) → ℕ → List ℕ
+marked m body nodes rows = padded body ++ join (map (numbers 4) nodes) ++ numbers 4 (length (padded body) ∷ length nodes ∷ rows ∷ m ∷ [])
 
--- a node by kind, param, rows, skip, kids, and the places of its bitmap and its first buffer; it has no second buffer
+unfoldable pub pack : List ℕ → List (List ℕ) → ℕ → List ℕ
+pack = marked mark
+
+unfoldable pub oldPack : List ℕ → List (List ℕ) → ℕ → List ℕ
+oldPack = marked oldMark
+
+-- a node by kind, param, rows, skip, kids, the places of its bitmap and its first buffer, and its null count; it has no second buffer. And one with no null row
+unfoldable pub counting : ℕ → ℕ → ℕ → ℕ → ℕ → ℕ → ℕ → ℕ → List ℕ
+counting kind param rows skip kids validity first nulls = kind ∷ param ∷ rows ∷ skip ∷ kids ∷ validity ∷ first ∷ 0 ∷ 0 ∷ nulls ∷ []
+
 unfoldable pub node : ℕ → ℕ → ℕ → ℕ → ℕ → ℕ → ℕ → List ℕ
-node kind param rows skip kids validity first = kind ∷ param ∷ rows ∷ skip ∷ kids ∷ validity ∷ first ∷ 0 ∷ 0 ∷ 0 ∷ []
+node kind param rows skip kids validity first = counting kind param rows skip kids validity first 0
 
 -- a mask of n slots and no null; a column of numbers of 4 bytes; of texts, by their offsets; runs of such numbers; lists of them
 unfoldable pub maskOf : ℕ → ℕ → List ℕ
@@ -142,27 +151,42 @@ p1 =
     0x05 ∷ 0 ∷ 0 ∷ 0 ∷ 0x08 ∷ 0 ∷ 0 ∷ 0
     ∷ 2 ∷ 0 ∷ 0 ∷ 0 ∷ 4 ∷ 0 ∷ 0 ∷ 0 ∷ 2 ∷ 0 ∷ 0 ∷ 0 ∷ 0 ∷ 0 ∷ 0 ∷ 0 ∷ 0 ∷ 0 ∷ 0 ∷ 0
     ∷ 0xFF ∷ 0xFF ∷ 0xFF ∷ 0xFF ∷ 0 ∷ 0 ∷ 0 ∷ 0 ∷ 0 ∷ 0 ∷ 0 ∷ 0 ∷ 0 ∷ 0 ∷ 0 ∷ 0 ∷ 0 ∷ 0 ∷ 0 ∷ 0
-    ∷ 8 ∷ 0 ∷ 0 ∷ 0 ∷ 1 ∷ 0 ∷ 0 ∷ 0 ∷ 2 ∷ 0 ∷ 0 ∷ 0 ∷ 0x43 ∷ 0x4F ∷ 0x4C ∷ 0x50 ∷ []
+    ∷ 8 ∷ 0 ∷ 0 ∷ 0 ∷ 1 ∷ 0 ∷ 0 ∷ 0 ∷ 2 ∷ 0 ∷ 0 ∷ 0 ∷ 0x43 ∷ 0x4F ∷ 0x4C ∷ 0x51 ∷ []
 
--- T, null, T, F
+-- T, null, T, F, with a null count
+saying : ℕ → List ℕ
+saying n = pack (0x07 ∷ 0x0D ∷ []) (counting 1 0 4 0 0 1 0 n ∷ []) 4
+
 withNull : List ℕ
-withNull = pack (0x07 ∷ 0x0D ∷ []) (node 1 0 4 0 0 1 0 ∷ []) 4
+withNull = saying 1
 
--- 1, null, 3
+-- 1, null, 3, with a null count
+counted : ℕ → List ℕ
+counted n = pack (padded (numbers 4 (1 ∷ 0 ∷ 3 ∷ [])) ++ (0x05 ∷ [])) (counting 2 4 3 0 0 16 0 n ∷ []) 3
+
+-- 1, null, behind a null row that is skipped, with a null count
+skipping : ℕ → List ℕ
+skipping n = pack (padded (numbers 4 (9 ∷ 1 ∷ 0 ∷ [])) ++ (0x02 ∷ [])) (counting 2 4 2 1 0 16 0 n ∷ []) 2
+
+-- 1, null, 3 with the old mark
 nullInside : List ℕ
-nullInside = pack (padded (numbers 4 (1 ∷ 0 ∷ 3 ∷ [])) ++ (0x05 ∷ [])) (node 2 4 3 0 0 16 0 ∷ []) 3
+nullInside = oldPack (padded (numbers 4 (1 ∷ 0 ∷ 3 ∷ [])) ++ (0x05 ∷ [])) (node 2 4 3 0 0 16 0 ∷ []) 3
+
+-- 1, null
+nullKept : List ℕ
+nullKept = pack (padded (0x01 ∷ []) ++ numbers 4 (1 ∷ 0 ∷ [])) (counting 2 4 2 0 0 0 8 1 ∷ []) 2
 
 -- lists 10 11, null (with a child row under it), 13
 nullList : List ℕ
 nullList =
     pack (padded (numbers 4 (0 ∷ 2 ∷ 3 ∷ 4 ∷ [])) ++ padded (numbers 4 (10 ∷ 11 ∷ 12 ∷ 13 ∷ [])) ++ (0x05 ∷ []))
-    (node 13 0 3 0 1 32 0 ∷ node 2 4 4 0 0 noBitmap 16 ∷ []) 3
+    (counting 13 0 3 0 1 32 0 1 ∷ node 2 4 4 0 0 noBitmap 16 ∷ []) 3
 
 -- 10 11, null
 nullListKept : List ℕ
 nullListKept =
     pack (padded (0x01 ∷ []) ++ padded (numbers 4 (0 ∷ 2 ∷ 2 ∷ [])) ++ numbers 4 (10 ∷ 11 ∷ []))
-    (node 13 0 2 0 1 0 8 ∷ node 2 4 2 0 0 noBitmap 24 ∷ []) 2
+    (counting 13 0 2 0 1 0 8 1 ∷ node 2 4 2 0 0 noBitmap 24 ∷ []) 2
 
 -- P1 with the list asked for: 3 places, of which 2 are stored to
 listed : Call
@@ -202,6 +226,11 @@ bench =
     -- views: the prefix is the first four data bytes, the unused bytes are zero; a view before skip may be anything
     ∷ keeps 1 2 Indices (maskOf 2 0x01) (viewsOf noBitmap 1 (long (0 ∷ 0 ∷ 0 ∷ 0 ∷ []) ∷ long (3 ∷ 4 ∷ 5 ∷ 6 ∷ []) ∷ short 0 ∷ [])) (viewsKept (long (3 ∷ 4 ∷ 5 ∷ 6 ∷ []) ∷ [])) untouched
     ∷ keeps 1 2 Indices (maskOf 2 0x02) (viewsOf noBitmap 1 (short 1 ∷ long (3 ∷ 4 ∷ 5 ∷ 6 ∷ []) ∷ short 0 ∷ [])) (viewsKept (short 0 ∷ [])) untouched
+    -- null counts: of the kept rows, from a journal that carries one and from one with the old mark; a skipped row does not count
+    ∷ keeps 2 3 Indices (maskOf 3 0x03) (counted 1) nullKept untouched
+    ∷ keeps 2 3 Indices (maskOf 3 0x03) nullInside nullKept untouched
+    ∷ keeps 2 3 Indices (maskOf 3 0x05) (counted 1) (natives (1 ∷ 3 ∷ [])) untouched
+    ∷ keeps 2 2 All (maskOf 2 0x03) (skipping 1) nullKept untouched
     -- offsets are rebuilt from 0, not from the source's first
     ∷ keeps 2 3 Indices (maskOf 3 0x05) (texts 3 (1 ∷ 3 ∷ 3 ∷ 6 ∷ []) (0x78 ∷ abcde)) (texts 2 (0 ∷ 2 ∷ 5 ∷ []) abcde) untouched
     ∷ []
@@ -231,6 +260,15 @@ refusals =
     (call (maskOf 5 9) (runsOf 9 0 (1 ∷ 2 ∷ 3 ∷ 4 ∷ 5 ∷ 6 ∷ 7 ∷ 8 ∷ 9 ∷ []) (replicate 9 1)) unstated false [] (9 ∷ []) [])
     ∷ refusal 13 Journal (call (maskOf 1 1) (listsOf 1 (0 ∷ 9 ∷ []) (replicate 9 1)) unstated false [] (9 ∷ []) [])
     ∷ refusal 14 Journal (plain 63 (maskOf 5 9) five)
+    -- 20: straight after 8, and before 9, 10 and 11
+    ∷ refusal 20 Mask (plain 99 (saying 2) five)
+    ∷ refusal 20 Mask (plain 99 (counted 0) five)
+    ∷ refusal 20 Mask (call (saying 0) five (stated 3) false [] [] [])
+    ∷ refusal 20 Journal (plain 99 (maskOf 6 9) (counted 2))
+    ∷ refusal 20 Journal (plain 99 (maskOf 2 3) (skipping 2))
+    ∷ refusal 20 Journal (plain 99 (maskOf 1 1) (pack (numbers 4 (1 ∷ [])) (counting 2 4 1 0 0 noBitmap 0 1 ∷ []) 1))
+    -- with the old mark the last field is unused
+    ∷ refusal 4 Journal (plain 99 (maskOf 1 1) (oldPack (numbers 4 (1 ∷ [])) (counting 2 4 1 0 0 noBitmap 0 1 ∷ []) 1))
     ∷ []
 
 cases : List Case
@@ -253,7 +291,7 @@ same-is t h (x ∷ xs) (y ∷ ys) e =
     ap₂ _∷_ (h x y (both .0)) (same-is t h xs ys (both .1))
 
 test : same (same (same eqb)) (map (λ (c : Case). c .found) cases) (map (λ (c : Case). c .expected) cases) ≡ true
-unfolding Bytes.opened Words.opened Node.opened Verdict.opened Masks.opened Kept.opened Write.opened Refusals.opened Answers.opened pack node maskOf natives texts runsOf listsOf viewsOf viewsKept long short call plain outcome case refusal keeps untouched five p1 withNull nullInside nullList nullListKept abcde listed sliced bench refusals cases routeNumber packNumber inNumbers same
+unfolding Bytes.opened Words.opened Node.opened Verdict.opened Masks.opened Kept.opened Write.opened Refusals.opened Answers.opened marked pack oldPack counting node maskOf natives texts runsOf listsOf viewsOf viewsKept long short call plain outcome case refusal keeps untouched five p1 saying withNull counted skipping nullInside nullKept nullList nullListKept abcde listed sliced bench refusals cases routeNumber packNumber inNumbers same
 test = refl
 
 -- the one statement
@@ -295,12 +333,12 @@ tightJournal =
     ∷ node 12 1 5 0 1 noBitmap (place 5 tight)
     ∷ node 2 2 2 0 0 noBitmap (place 6 tight)
     ∷ node 1 0 5 0 0 noBitmap (place 7 tight)
-    ∷ node 13 0 5 0 1 (place 8 tight) (place 9 tight)
+    ∷ counting 13 0 5 0 1 (place 8 tight) (place 9 tight) 1
     ∷ node 2 2 4 0 0 noBitmap (place 10 tight)
     ∷ [])
     5
 
--- six rows, a skip in every node but the keys', bitmaps in which no kept row is null, other values, texts, runs and keys in the dropped
+-- six rows, a skip in every node but the keys', bitmaps in which no kept row is null, other null counts, other values, texts, runs and keys in the dropped
 -- rows, text bytes, a run and list rows that no kept row has, list rows under the null list, keys of null rows past the dictionary, spare bits
 -- set, buffers in another order
 unfoldable pub loose : List (List ℕ)
@@ -326,15 +364,15 @@ loose =
 unfoldable pub looseJournal : List ℕ
 looseJournal =
     pack (pieces loose)
-    (node 10 0 6 4 6 (place 12 loose) 0
-    ∷ node 2 4 6 2 0 (place 10 loose) (place 11 loose)
+    (counting 10 0 6 4 6 (place 12 loose) 0 4
+    ∷ counting 2 4 6 2 0 (place 10 loose) (place 11 loose) 4
     ∷ (4 ∷ 0 ∷ 6 ∷ 1 ∷ 0 ∷ noBitmap ∷ place 9 loose ∷ place 8 loose ∷ 10 ∷ 0 ∷ [])
     ∷ node 9 4 6 1 1 noBitmap (place 7 loose)
     ∷ node 2 4 3 1 0 noBitmap (place 6 loose)
-    ∷ node 12 1 6 0 1 (place 5 loose) (place 4 loose)
+    ∷ counting 12 1 6 0 1 (place 5 loose) (place 4 loose) 4
     ∷ node 2 2 2 1 0 (place 3 loose) (place 2 loose)
     ∷ node 1 0 6 3 0 noBitmap (place 1 loose)
-    ∷ node 13 0 6 1 1 (place 15 loose) (place 14 loose)
+    ∷ counting 13 0 6 1 1 (place 15 loose) (place 14 loose) 2
     ∷ node 2 2 7 1 0 noBitmap (place 13 loose)
     ∷ [])
     6
@@ -343,12 +381,12 @@ looseJournal =
 unfoldable pub one-way : Call
 one-way = call (maskOf 5 0x09) tightJournal unstated false [] (9 ∷ 9 ∷ []) (replicate 528 7)
 
--- another mask too: a skip, true bits that are null, spare bits set; the list asked for; more scratch
+-- another mask too: the old mark, a skip, true bits that are null, spare bits set; the list asked for; more scratch
 unfoldable pub other-way : Call
-other-way = call (pack (0x7F ∷ 0xD2 ∷ []) (node 1 0 5 1 0 1 0 ∷ []) 5) looseJournal unstated true (1 ∷ 2 ∷ 3 ∷ []) (8 ∷ 8 ∷ 8 ∷ []) (replicate 528 7)
+other-way = call (oldPack (0x7F ∷ 0xD2 ∷ []) (node 1 0 5 1 0 1 0 ∷ []) 5) looseJournal unstated true (1 ∷ 2 ∷ 3 ∷ []) (8 ∷ 8 ∷ 8 ∷ []) (replicate 528 7)
 
 pub premises-hold : Alike one-way other-way
-unfolding Bytes.opened Node.opened Verdict.opened Masks.opened Kept.opened Write.opened Refusals.opened Answers.opened pack node maskOf call abcde pieces place tight tightJournal loose looseJournal one-way other-way
+unfolding Bytes.opened Node.opened Verdict.opened Masks.opened Kept.opened Write.opened Refusals.opened Answers.opened marked pack oldPack counting node maskOf call abcde pieces place tight tightJournal loose looseJournal one-way other-way
 premises-hold =
     record {
       maskC = refl;
@@ -371,5 +409,5 @@ premises-hold =
 
 -- and neither call is refused: both give an extract of 520 bytes
 pub premises-succeed : answer one-way ≡ Done 2 5 Indices 520
-unfolding Bytes.opened Node.opened Verdict.opened Masks.opened Kept.opened Write.opened Refusals.opened Answers.opened pack node maskOf call abcde pieces place tight tightJournal one-way
+unfolding Bytes.opened Node.opened Verdict.opened Masks.opened Kept.opened Write.opened Refusals.opened Answers.opened marked pack oldPack counting node maskOf call abcde pieces place tight tightJournal one-way
 premises-succeed = refl

@@ -16,7 +16,7 @@ use Rattle.format.specs.declared.Kind.the-variants.{Unknown}
 use Rattle.format.specs.Node.{kinds, kindOf, kind, kids, nodeCount, Ancestor, ancestor, closed, oneLess, ancestors, innermost, parent}
 use Rattle.format.specs.Kept.{passedOn, keptFrom, keptBefore, keptRows, KeptNode, keptNode, keptPart}
 use Rattle.format.specs.Verdict.{wrongSize, wrongMark, wrongTable, wrongFields, wrongTree, wrongRows, wrongBuffers, wrongContent}
-use Rattle.format.specs.Verdict.{conditions, firstOf, journalVerdict, maskVerdict, wrongRoot}
+use Rattle.format.specs.Verdict.{wrongNulls, wrongRoot, Condition, condition, conditions, firstOf, journalVerdict, maskVerdict}
 
 -- one step more
 pub sum-more : (f : ℕ → ℕ) (n : ℕ) → sumBelow f (n + 1) ≡ sumBelow f n + f n
@@ -102,7 +102,7 @@ unfolding kindOf
 unknown-above n h = List·getD-eq-default kinds Unknown {n = n} h
 
 -- what acceptance tells: each condition by itself is false
-pub none-first : (n : ℕ) (b : Bool) (cs : List Bool) → firstOf (suc n) (b ∷ cs) ≡ 0 → (b ≡ false) × (firstOf (suc (suc n)) cs ≡ 0)
+pub none-first : (n : ℕ) (b : Bool) (cs : List Condition) → firstOf (condition (suc n) b ∷ cs) ≡ 0 → (b ≡ false) × (firstOf cs ≡ 0)
 unfolding firstOf
 none-first n true cs e = absurd (omega arith)
 none-first n false cs e = (refl, e)
@@ -116,11 +116,12 @@ pub record Accepted (b : List ℕ) : Type 0 where
   pub rowed : wrongRows b ≡ false
   pub buffers : wrongBuffers b ≡ false
   pub content : wrongContent b ≡ false
+  pub nulls : wrongNulls b ≡ false
 
--- the first eight conditions of a list, and what is left of it
-eight : (b : List ℕ) (rest : List Bool) → firstOf 1 (conditions b ++ rest) ≡ 0 → Accepted b × (firstOf 9 rest ≡ 0)
+-- a pack's own conditions, and what is left of a list that starts with them
+own : (b : List ℕ) (rest : List Condition) → firstOf (conditions b ++ rest) ≡ 0 → Accepted b × (firstOf rest ≡ 0)
 unfolding conditions
-eight b rest e1 =
+own b rest e1 =
     let (h1, e2) = none-first _ _ _ e1 in
     let (h2, e3) = none-first _ _ _ e2 in
     let (h3, e4) = none-first _ _ _ e3 in
@@ -129,16 +130,17 @@ eight b rest e1 =
     let (h6, e7) = none-first _ _ _ e6 in
     let (h7, e8) = none-first _ _ _ e7 in
     let (h8, e9) = none-first _ _ _ e8 in
-    (record { size = h1; marked = h2; tabled = h3; fields = h4; tree = h5; rowed = h6; buffers = h7; content = h8 }, e9)
+    let (h20, left) = none-first _ _ _ e9 in
+    (record { size = h1; marked = h2; tabled = h3; fields = h4; tree = h5; rowed = h6; buffers = h7; content = h8; nulls = h20 }, left)
 
 pub accepted : (b : List ℕ) → journalVerdict b ≡ 0 → Accepted b
 unfolding journalVerdict
-accepted b e = eight b [] (ap (firstOf 1) (append-nil (conditions b)) ∙ e) .0
+accepted b e = own b [] (ap firstOf (append-nil (conditions b)) ∙ e) .0
 
 pub accepted-mask : (b : List ℕ) → maskVerdict b ≡ 0 → Accepted b × (wrongRoot b ≡ false)
 unfolding maskVerdict
 accepted-mask b e =
-    let (a, r) = eight b (wrongRoot b ∷ []) e in
+    let (a, r) = own b (condition 9 (wrongRoot b) ∷ []) e in
     (a, none-first _ _ _ r .0)
 
 -- a node's parent stands before it

@@ -6,6 +6,7 @@ pub mod Put
 pub mod Threshold
 pub mod Numbers
 pub mod PackedLaws
+pub mod NullLaws
 pub mod RowLaws
 pub mod SpanLaws
 pub mod Measure

@@ -1,13 +1,13 @@
--- The laws of a write, and of what a loop of writes has left to write. Only `put-parts`, `put-front` and `wrote-front` ask that the bytes fit. Assumes nothing.
-use Prim.Native.Nat.{ℕ, suc, _+_, _≤_}
+-- The laws of a write, and of what a loop of writes has left to write. Only `put-parts`, `put-front`, `wrote-front`, `put-at` and `bit-put` ask that the bytes fit. Assumes nothing.
+use Prim.Native.Nat.{ℕ, zero, suc, _+_, _*_, _/_, _%_, _≤_, _<_}
 use mathlib.Core.Path.{_≡_, refl, sym, ap, ap₂, _∙_}
 use mathlib.Core.List.{List, [], _∷_, _++_}
 use native.Mathlib.Nat.{add-zero, zero-add}
 use native.Mathlib.Numerals.{add-one}
 use native.Mathlib.Omega.{arith}
-use lib.ListN.{length, take, drop, set, length-set, length-append}
-use lib.Seq.{sets, sets-eq}
-use Rattle.format.specs.Bytes.{over}
+use lib.ListN.{length, getD, take, drop, set, length-set, length-append}
+use lib.Seq.{getD-set-same, getD-set-other, sets, sets-eq}
+use Rattle.format.specs.Bytes.{bitIn, over}
 use Rattle.format.specs.Put.{put, Wrote}
 
 -- two writes one after the other are one
@@ -39,6 +39,38 @@ put-front old bs fit = put-parts old 0 bs (omega arith) ∙ rw zero-add
 
 pub wrote-front : {old bs new : List ℕ} {next : ℕ} → Wrote old 0 bs new next → length bs ≤ length old → new ≡ over bs old
 wrote-front {old} {bs} w fit = w .bytes ∙ put-front old bs fit
+
+-- ---- what stands there after a write, byte by byte and bit by bit
+
+pub put-before : (old : List ℕ) (at : ℕ) (bs : List ℕ) (i : ℕ) → i < at → getD (put old at bs) i 0 ≡ getD old i 0
+unfolding put
+put-before old at [] i h = refl
+put-before old at (b ∷ bs) i h = put-before (set old at b) (suc at) bs i (omega arith) ∙ getD-set-other old at i b 0 (λ e. omega arith)
+
+pub put-at : (old : List ℕ) (at : ℕ) (bs : List ℕ) (i : ℕ) → i < length bs → at + length bs ≤ length old → getD (put old at bs) (at + i) 0 ≡ getD bs i 0
+unfolding put
+put-at old at [] i h fit = absurd (omega arith)
+put-at old at (b ∷ bs) zero h fit =
+    rw add-zero (put-before (set old at b) (suc at) bs at (omega arith) ∙ getD-set-same old at b 0 (omega arith))
+put-at old at (b ∷ bs) (suc i) h fit =
+    let next : at + suc i ≡ suc at + i = omega arith in
+    rw next (put-at (set old at b) (suc at) bs i (omega arith) (omega (arith, length-set old at b)))
+
+pub put-past : (old : List ℕ) (at : ℕ) (bs : List ℕ) (i : ℕ) → at + length bs ≤ i → getD (put old at bs) i 0 ≡ getD old i 0
+unfolding put
+put-past old at [] i h = refl
+put-past old at (b ∷ bs) i h = put-past (set old at b) (suc at) bs i (omega arith) ∙ getD-set-other old at i b 0 (λ e. omega arith)
+
+pub bit-before : (old : List ℕ) (at : ℕ) (bs : List ℕ) (k : ℕ) → k < 8 * at → bitIn (put old at bs) k ≡ bitIn old k
+unfolding bitIn
+bit-before old at bs k h = rw (put-before old at bs (k / 8) (omega arith))
+
+pub bit-put : (old : List ℕ) (at : ℕ) (bs : List ℕ) (k : ℕ) → k < 8 * length bs → at + length bs ≤ length old → bitIn (put old at bs) (8 * at + k) ≡ bitIn bs k
+unfolding bitIn
+bit-put old at bs k h fit =
+    let q : (8 * at + k) / 8 ≡ at + k / 8 = omega arith in
+    let r : (8 * at + k) % 8 ≡ k % 8 = omega arith in
+    rw (q, r, put-at old at bs (k / 8) (omega arith) fit)
 
 -- ---- a run of writes: `then` joins two
 

@@ -8,8 +8,8 @@ use lib.ListN.{length, getD}
 use Rattle.format.specs.declared.Kind.{Kind}
 use Rattle.format.specs.declared.Kind.the-variants.{Bits, Native, Bytes32, Bytes64, Views, Lists32, Lists64, Runs, Struct, Union, Dictionary, Nested32, Nested64, Unknown}
 use Rattle.format.specs.Bytes.{bytesFor, le}
-use Rattle.format.specs.Node.{tableStart, nodeCount, rootRows, param, rows, skip, kids, validityAt, noBitmap, firstAt, secondAt, secondLength}
-use Rattle.format.specs.Node.{kind, places, hasNoBitmap, valid, firstNumber, secondNumber, runEnd, runStart, parent, depth, child, dataBuffer}
+use Rattle.format.specs.Node.{tableStart, nodeCount, rootRows, carriesCounts, param, rows, skip, kids, validityAt, noBitmap, firstAt, secondAt, secondLength, lastField}
+use Rattle.format.specs.Node.{kind, places, hasNoBitmap, valid, nullCount, firstNumber, secondNumber, runEnd, runStart, parent, depth, child, dataBuffer}
 use Rattle.format.specs.Verdict.{packLimit, oneOf, layout, firstSize, secondSize, viewField, viewData}
 
 -- the kinds that have one child: list views, runs, dictionary, lists
@@ -116,12 +116,18 @@ pub record RunEnds (b : List ℕ) (i : ℕ) : Type 0 where
   pub cover : places b i ≤ runStart b i (rows b (child i))
   pub lie : firstAt b i + param b i * rows b (child i) ≤ tableStart b
 
+-- a carried null count is true (20)
+pub record CountsNulls (b : List ℕ) (i : ℕ) : Type 0 where
+  pub carried : carriesCounts b ≡ true → lastField b i ≡ nullCount b i
+  pub old : carriesCounts b ≡ false → lastField b i ≡ 0
+
 -- all that acceptance gives
 pub record Sound (b : List ℕ) : Type 0 where
   pub shape : Shape b
   pub agree : RowsAgree b
   pub fields : (i : ℕ) → i < nodeCount b → Fields b i
   pub inBody : (i : ℕ) → i < nodeCount b → InBody b i
+  pub nulls : (i : ℕ) → i < nodeCount b → CountsNulls b i
   pub offsets32 : (i : ℕ) → i < nodeCount b → kind b i ≡ Bytes32 → Offsets 4 b i
   pub offsets64 : (i : ℕ) → i < nodeCount b → kind b i ≡ Bytes64 → Offsets 8 b i
   pub views : (i r : ℕ) → i < nodeCount b → kind b i ≡ Views → r < rows b i → ViewLies b i r

@@ -74,7 +74,7 @@ extractOf c = extract (c .journal) (picks (c .mask))
 unfoldable pub outputShort : ℕ → ℕ → Bool
 outputShort room bytes = ltb room bytes || ltb packLimit bytes
 
--- the order: mask 1 to 9, then 11; journal 1 to 8, then 10, 12, 13, 14
+-- the order: mask 1 to 8, 20, 9, then 11; journal 1 to 8, 20, then 10, 12, 13, 14
 unfoldable pub refusalOf : Call → Refusal Pack
 refusalOf c =
     ofVerdict Mask (maskVerdict (c .mask))
@@ -119,7 +119,7 @@ pub record Returned (c : Call) (r : Answer) (output list scratch : List ℕ) : T
 abbrev pub preparing : List ℕ → Stated → Bool → List ℕ → Call
 preparing m count asked list = callOf m [] count asked list [] []
 
--- the order: mask 1 to 9, then 11, then 12, which names the journal here too
+-- the order: mask 1 to 8, 20, 9, then 11, then 12, which names the journal here too
 unfoldable pub maskRefusal : Call → Refusal Pack
 maskRefusal c =
     ofVerdict Mask (maskVerdict (c .mask)) then when (wrongCount (c .states) (count (c .mask))) 11 Mask then when (listShort c) 12 Journal

@@ -1,4 +1,4 @@
--- When a pack is refused: conditions 1 to 8, and 9 for a mask (docs/FORMAT.md, 5 and 11). Each condition speaks of all nodes. Assumes nothing.
+-- When a pack is refused: conditions 1 to 8, then 20, and 9 for a mask (docs/FORMAT.md, 5 and 11). Each condition speaks of all nodes. Assumes nothing.
 use Prim.Native.Nat.{ℕ, suc, _+_, _*_}
 use mathlib.Core.Bool.{Bool, true, false, cond, not, _&&_, _||_}
 use mathlib.Core.List.{List, [], _∷_, _++_}
@@ -7,9 +7,9 @@ use lib.ListN.{length, getD}
 use Rattle.format.specs.declared.Kind.{Kind}
 use Rattle.format.specs.declared.Kind.the-variants.{Bits, Native, Fixed, Bytes32, Bytes64, Views, Lists32, Lists64, Runs, Struct, Union, Dictionary, Nested32, Nested64, Unknown}
 use Rattle.format.specs.Bytes.{le, anyBelow, negative, bytesFor}
-use Rattle.format.specs.Node.{tableStart, nodeCount, rootRows, markOf, mark, param, rows, skip, kids, validityAt, firstAt, secondAt}
+use Rattle.format.specs.Node.{tableStart, nodeCount, rootRows, markOf, mark, oldMark, carriesCounts, param, rows, skip, kids, validityAt, firstAt, secondAt}
 use Rattle.format.specs.Node.{secondLength, lastField}
-use Rattle.format.specs.Node.{kind, ofKind, places, hasNoBitmap, valid, firstNumber, secondNumber, runEnd, runStart}
+use Rattle.format.specs.Node.{kind, ofKind, places, hasNoBitmap, valid, nullCount, firstNumber, secondNumber, runEnd, runStart}
 use Rattle.format.specs.Node.{Ancestor, ancestors, parent, depth, child, dataBuffer}
 
 -- some node passes the test; some node below the root does
@@ -28,7 +28,7 @@ wrongSize b = ltb (length b) 16 || ltb packLimit (length b)
 
 -- 2: mark
 unfoldable pub wrongMark : List ℕ → Bool
-wrongMark b = not (eqb (markOf b) mark)
+wrongMark b = not (eqb (markOf b) mark || eqb (markOf b) oldMark)
 
 -- 3: 1 to 64 nodes; the table ends where the trailer starts
 unfoldable pub wrongTable : List ℕ → Bool
@@ -81,7 +81,7 @@ layout Unknown = row (oneOf []) any true true true true
 unfoldable pub misused : Bool → ℕ → Bool
 misused used n = not (used || eqb n 0)
 
--- 4: kind, param, kids number, bitmap where none may be, unused field
+-- 4: kind, param, kids number, bitmap where none may be, unused field (the last one under the old mark)
 unfoldable pub badFields : Layout → List ℕ → ℕ → Bool
 badFields l b i =
     not (l .params (param b i))
@@ -90,7 +90,7 @@ badFields l b i =
     || misused (l .first) (firstAt b i)
     || misused (l .second) (secondAt b i)
     || misused (l .dataLength) (secondLength b i)
-    || misused false (lastField b i)
+    || misused (carriesCounts b) (lastField b i)
 
 unfoldable pub wrongFields : List ℕ → Bool
 wrongFields b = anyNode b (λ i. badFields (layout (kind b i)) b i)
@@ -231,37 +231,46 @@ badContent Unknown b i = false
 unfoldable pub wrongContent : List ℕ → Bool
 wrongContent b = anyNode b (λ i. badContent (kind b i) b i)
 
+-- 20: a carried null count is wrong
+unfoldable pub wrongNulls : List ℕ → Bool
+wrongNulls b = carriesCounts b && anyNode b (λ i. not (eqb (lastField b i) (nullCount b i)))
+
 -- 9: mask root not bits
 unfoldable pub wrongRoot : List ℕ → Bool
 wrongRoot b = not (ofKind 1 b 0)
 
--- conditions 1 to 8, tried on every pack; a mask has one more
-unfoldable pub conditions : List ℕ → List Bool
+-- a condition: its number, and whether it holds
+pub data Condition : Type 0 where
+  condition : ℕ → Bool → Condition
+
+-- the conditions tried on every pack, in order: 1 to 8, straight after them 20; a mask has one more
+unfoldable pub conditions : List ℕ → List Condition
 conditions b =
-    wrongSize b
-    ∷ wrongMark b
-    ∷ wrongTable b
-    ∷ wrongFields b
-    ∷ wrongTree b
-    ∷ wrongRows b
-    ∷ wrongBuffers b
-    ∷ wrongContent b
+    condition 1 (wrongSize b)
+    ∷ condition 2 (wrongMark b)
+    ∷ condition 3 (wrongTable b)
+    ∷ condition 4 (wrongFields b)
+    ∷ condition 5 (wrongTree b)
+    ∷ condition 6 (wrongRows b)
+    ∷ condition 7 (wrongBuffers b)
+    ∷ condition 8 (wrongContent b)
+    ∷ condition 20 (wrongNulls b)
     ∷ []
 
--- the number of the first condition that holds, counted from n; 0 if none does
-unfoldable pub firstOf : ℕ → List Bool → ℕ
-firstOf n [] = 0
-firstOf n (true ∷ cs) = n
-firstOf n (false ∷ cs) = firstOf (suc n) cs
+-- the number of the first condition that holds; 0 if none does
+unfoldable pub firstOf : List Condition → ℕ
+firstOf [] = 0
+firstOf (condition n true ∷ cs) = n
+firstOf (condition n false ∷ cs) = firstOf cs
 
 -- the number by which a journal (a mask) is refused on its own; 0: it is accepted
 unfoldable pub journalVerdict : List ℕ → ℕ
-journalVerdict b = firstOf 1 (conditions b)
+journalVerdict b = firstOf (conditions b)
 
 unfoldable pub maskVerdict : List ℕ → ℕ
-maskVerdict b = firstOf 1 (conditions b ++ (wrongRoot b ∷ []))
+maskVerdict b = firstOf (conditions b ++ (condition 9 (wrongRoot b) ∷ []))
 
 -- to unfold `opened` is to unfold all of this module
 unfoldable pub opened : Unit {0}
-unfolding wrongSize wrongMark wrongTable oneOf misused badFields wrongFields empty notClosed badDataBuffer wrongTree badChildRows wrongRows badBuffers wrongBuffers badOffsets viewField viewData badLong badShort badView badRange badRuns badContent wrongContent wrongRoot conditions firstOf journalVerdict maskVerdict
+unfolding wrongSize wrongMark wrongTable oneOf misused badFields wrongFields empty notClosed badDataBuffer wrongTree badChildRows wrongRows badBuffers wrongBuffers badOffsets viewField viewData badLong badShort badView badRange badRuns badContent wrongContent wrongNulls wrongRoot conditions firstOf journalVerdict maskVerdict
 opened = tt

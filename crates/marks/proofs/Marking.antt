@@ -19,11 +19,11 @@ use Rattle.format.proofs.Laws.{getD-table}
 use Rattle.format.proofs.Measure.{length-toLe}
 use Rattle.format.proofs.PackedLaws.{packed-word, bit-packed}
 use Rattle.format.proofs.SlotLaws.{length-slots}
-use Rattle.format.proofs.Put.{length-put, same-size}
+use Rattle.format.proofs.Put.{length-put, put-before, put-at, put-past, same-size}
 use Rattle.format.proofs.WordLaws.{from-ext, from-shift, from-none, from-high, from-low, from-byte, bytes-bits}
 use Rattle.marks.specs.Marks.{Marked}
 use Rattle.marks.proofs.Tests.{within-join, within-in, within-before, within-past, or-join, or-ones, from-or, from-full-ones, from-within}
-use Rattle.marks.proofs.Stored.{put-before, put-at, put-past, getD-slots, length-rows}
+use Rattle.marks.proofs.Stored.{getD-slots, length-rows}
 
 pub marked-none : {t : ℕ → Bool} {s : List ℕ} → ((k : ℕ) → t k ≡ false) → Marked t s s
 marked-none {t} {s} h =

@@ -1,37 +1,18 @@
--- What stands in a buffer after a write, byte by byte; of the tests of slots, one, and how long they are packed. Assumes nothing.
+-- A part of a buffer written whole; the same byte many times; of the tests of slots, one, and how long they are packed. Assumes nothing.
 use Prim.Native.Nat.{ℕ, zero, suc, _+_, _-_, _≤_, _<_}
 use mathlib.Core.Bool.{Bool, false}
 use mathlib.Core.List.{List, [], _∷_, _++_, append-assoc}
-use mathlib.Core.Path.{_≡_, refl, sym, ap, _∙_}
+use mathlib.Core.Path.{_≡_, sym, ap, _∙_}
 use native.Mathlib.Nat.{add-zero, add-suc, suc-add}
 use native.Mathlib.Omega.{arith}
-use lib.ListN.{length, getD, set, replicate, take, drop, length-set}
-use lib.Seq.{getD-set-same, getD-set-other, drop-drop}
+use lib.ListN.{length, getD, replicate, take, drop}
+use lib.Seq.{drop-drop}
 use Rattle.format.specs.Bytes.{bytesFor, packed}
 use Rattle.format.specs.Slots.{slotsFrom}
-use Rattle.format.specs.Put.{put, Wrote}
+use Rattle.format.specs.Put.{Wrote}
 use Rattle.format.proofs.Measure.{length-packed}
 use Rattle.format.proofs.Put.{put-parts}
 use Rattle.format.proofs.SlotLaws.{length-slots}
-
-pub put-before : (old : List ℕ) (at : ℕ) (bs : List ℕ) (i : ℕ) → i < at → getD (put old at bs) i 0 ≡ getD old i 0
-unfolding put
-put-before old at [] i h = refl
-put-before old at (b ∷ bs) i h = put-before (set old at b) (suc at) bs i (omega arith) ∙ getD-set-other old at i b 0 (λ e. omega arith)
-
-pub put-at : (old : List ℕ) (at : ℕ) (bs : List ℕ) (i : ℕ) → i < length bs → at + length bs ≤ length old → getD (put old at bs) (at + i) 0 ≡ getD bs i 0
-unfolding put
-put-at old at [] i h fit = absurd (omega arith)
-put-at old at (b ∷ bs) zero h fit =
-    rw add-zero (put-before (set old at b) (suc at) bs at (omega arith) ∙ getD-set-same old at b 0 (omega arith))
-put-at old at (b ∷ bs) (suc i) h fit =
-    let next : at + suc i ≡ suc at + i = omega arith in
-    rw next (put-at (set old at b) (suc at) bs i (omega arith) (omega (arith, length-set old at b)))
-
-pub put-past : (old : List ℕ) (at : ℕ) (bs : List ℕ) (i : ℕ) → at + length bs ≤ i → getD (put old at bs) i 0 ≡ getD old i 0
-unfolding put
-put-past old at [] i h = refl
-put-past old at (b ∷ bs) i h = put-past (set old at b) (suc at) bs i (omega arith) ∙ getD-set-other old at i b 0 (λ e. omega arith)
 
 -- a part of a buffer written whole
 pub part-wrote : {old ys bs : List ℕ} (at size : ℕ) {next : ℕ} → ys ≡ bs → length bs ≡ size → at + size ≤ length old → next ≡ at + size → Wrote old at bs (take at old ++ (ys ++ drop size (drop at old))) next

@@ -20,7 +20,7 @@ fn mask_of(slots: u8, bits: u8) -> [u8; 64] {
     pack[60] = 0x43;
     pack[61] = 0x4F;
     pack[62] = 0x4C;
-    pack[63] = 0x50;
+    pack[63] = 0x51;
     pack
 }
 

@@ -1,6 +1,6 @@
 -- A node's three buffers one after the other are what it adds to the body; the size of its data. Assumes nothing.
 use Prim.Native.Nat.{ℕ, _+_, _-_, _≤_}
-use mathlib.Core.Path.{_≡_, refl, _∙_}
+use mathlib.Core.Path.{_≡_, refl, sym, _∙_}
 use mathlib.Core.Bool.{true}
 use mathlib.Core.List.{List, map}
 use native.Mathlib.Omega.{arith}
@@ -10,7 +10,8 @@ use Rattle.format.specs.declared.Kind.the-variants.{Bits as BitsKind, Native, F
 use Rattle.format.specs.Bytes.{join}
 use Rattle.format.specs.Kept.{KeptNode, cells, ownBytes, keptNode}
 use Rattle.format.specs.Node.{noBitmap, hasNoBitmap, kind, valid}
-use Rattle.format.specs.Write.{Buffer, absent, holds, bitmap, first, second, dataLength}
+use Rattle.format.specs.Write.{Buffer, absent, holds, nulls, bitmap, first, second, dataLength}
+use Rattle.format.proofs.NullLaws.{no-nulls}
 use Rattle.format.proofs.Put.{then, same-size}
 use Rattle.append.specs.Cells.{padding}
 use Rattle.buffers.specs.Place.{appended, ending, startOf, Puts}
@@ -98,15 +99,16 @@ module _ (b : List ℕ) (i : ℕ) (rs : List ℕ) {old : List ℕ} {at : ℕ} {m
   after-first : f .next ≡ ending (ending at (bitmap (map (valid b i) rs))) (first (cells (kind b i) b i rs))
   after-first = puts-end q ∙ rw (puts-end p)
 
-  pub added : (k : Kind) (n : ℕ) → k ≡ kind b i → n ≡ dataSize k (d .start) (d .next)
-      → Added (keptNode b i rs) old at new (record { validity = v .start; first = f .start; second = d .start; next = d .next; «data» = n })
+  pub added : (k : Kind) (n c : ℕ) → k ≡ kind b i → n ≡ dataSize k (d .start) (d .next) → c ≡ nulls (map (valid b i) rs)
+      → Added (keptNode b i rs) old at new (record { validity = v .start; first = f .start; second = d .start; next = d .next; «data» = n; nulls = c })
   unfolding nodeBody keptNode
-  added k n e s = record {
+  added k n c e s m = record {
     wrote = rw (← after-first, ← puts-end p) (then (p .wrote) (then (q .wrote) (r .wrote)));
     bitmapStart = p .starts;
     firstStart = rw (← puts-end p) (q .starts);
     secondStart = rw (← after-first) (r .starts);
     size = s ∙ rw (e, r .starts, puts-end r) (data-length b i rs (f .next) (kind b i));
+    counted = m;
   }
 
 -- ---- one buffer alone
@@ -136,5 +138,6 @@ module _ (b : List ℕ) (i : ℕ) (rs : List ℕ) (f : Flat (kind b i)) (plain :
   alone-room at old fit = first-room b i rs at old fit (puts-none no-bitmap refl)
 
   pub alone : {old : List ℕ} {at : ℕ} {new : List ℕ} {r : Placed} → Puts 0 (first (cells (kind b i) b i rs)) old at new r
-      → Added (keptNode b i rs) old at new (record { validity = noBitmap; first = r .start; second = 0; next = r .next; «data» = 0 })
-  alone {r = r} q = added b i rs (puts-none no-bitmap refl) q (puts-none no-second refl) (kind b i) 0 refl (flat-size f 0 (r .next))
+      → Added (keptNode b i rs) old at new (record { validity = noBitmap; first = r .start; second = 0; next = r .next; «data» = 0; nulls = 0 })
+  alone {r = r} q =
+      added b i rs (puts-none no-bitmap refl) q (puts-none no-second refl) (kind b i) 0 0 refl (flat-size f 0 (r .next)) (sym (no-nulls _ (all-valid b i rs plain)))

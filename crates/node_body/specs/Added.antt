@@ -7,7 +7,7 @@ use Rattle.format.specs.declared.Kind.the-variants.{Bits as BitsKind, Native, F
 use Rattle.format.specs.Node.{noBitmap}
 use Rattle.format.specs.Put.{Wrote}
 use Rattle.format.specs.Kept.{KeptNode}
-use Rattle.format.specs.Write.{bitmap, first, second, dataLength}
+use Rattle.format.specs.Write.{nulls, bitmap, first, second, dataLength}
 use Rattle.buffers.specs.Place.{ending, startOf}
 use Rattle.nodes.specs.Body.{nodeBody}
 use Rattle.node_body.specs.declared.Buffers.{Buffers}
@@ -30,10 +30,11 @@ dataSize Nested32 start next = 0
 dataSize Nested64 start next = 0
 dataSize Unknown start next = 0
 
--- a node's buffers are put behind the place where the body ends: their bytes, their starts, and the length of the data
+-- a node's buffers are put behind the place where the body ends: their bytes, their starts, the length of the data, and how many rows are null
 pub record Added (k : KeptNode) (old : List ℕ) (at : ℕ) (new : List ℕ) (r : Buffers) : Type 0 where
   pub wrote : Wrote old at (nodeBody at k) new (r .next)
   pub bitmapStart : r .validity ≡ startOf noBitmap at (bitmap (k .marks))
   pub firstStart : r .first ≡ startOf 0 (ending at (bitmap (k .marks))) (first (k .values))
   pub secondStart : r .second ≡ startOf 0 (ending (ending at (bitmap (k .marks))) (first (k .values))) (second (k .values))
   pub size : r .data ≡ dataLength (k .values)
+  pub counted : r .nulls ≡ nulls (k .marks)

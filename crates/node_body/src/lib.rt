@@ -7,6 +7,7 @@ ghost use lib.ListN.{length};
 ghost use Rattle.format.specs.Accepted.{Nests};
 ghost use Rattle.format.specs.Kept.{keptNode, keptSpans};
 ghost use Rattle.format.specs.Node.{valid, hasNoBitmap, kind};
+ghost use Rattle.format.specs.Verdict.{packLimit};
 ghost use Rattle.format.specs.Write.{anyNull};
 ghost use Rattle.nodes.specs.Body.{nodeBody};
 ghost use Rattle.buffers.specs.Place.{rowsBy};
@@ -18,13 +19,14 @@ use pack::Node;
 use predicate::Selection;
 use slots::Bits;
 
-// Where a node's buffers start, where the body ends behind them, and how many data bytes a byte column has.
+// Where a node's buffers start, where the body ends behind them, how many data bytes a byte column has, and how many of the kept rows are null.
 pub struct Buffers {
     pub validity: usize,
     pub first: usize,
     pub second: usize,
     pub next: usize,
     pub data: usize,
+    pub nulls: usize,
 }
 
 // The length of the data of a byte column, which ends the body; 0 for the other kinds.
@@ -69,14 +71,14 @@ pub fn put_buffers(
 ) -> Buffers
     requires { ⌜ Picked (now journal) i node sel (now s) bits (now list) ⌝ }
     requires { ⌜ Kinded (now journal) i k n ⌝ }
-    requires { ⌜ null ≡ anyNull (map (valid (now journal) i) (rowsBy sel (now s) bits)) ⌝ }
+    requires { ⌜ (null ≡ anyNull (map (valid (now journal) i) (rowsBy sel (now s) bits))) × (count ≡ length (rowsBy sel (now s) bits)) × (length (now out) ≤ packLimit) ⌝ }
     requires { ⌜ at + length (nodeBody at (keptNode (now journal) i (rowsBy sel (now s) bits))) ≤ length (now out) ⌝ }
     ensures { λ r. ⌜ Added (keptNode (now (journal .entry)) i (rowsBy sel (now (s .entry)) bits)) (now (out .entry)) at (now (out .exit)) r ⌝ }
 {
     let v = nodes::filter_nulls(out, at, journal, i, node, null, sel, s, bits, list, count);
     let f = nodes::filter_first(
         out,
-        v.next,
+        v.placed.next,
         journal,
         i,
         node,
@@ -90,11 +92,12 @@ pub fn put_buffers(
     );
     let d = nodes::filter_second(out, f.next, journal, i, node, k, sel, s, bits, list);
     Buffers {
-        validity: v.start,
+        validity: v.placed.start,
         first: f.start,
         second: d.start,
         next: d.next,
         data: data_size(k, d.start, d.next),
+        nulls: v.count,
     }
 }
 
@@ -139,5 +142,6 @@ pub fn put_values(
         second: 0,
         next: f.next,
         data: 0,
+        nulls: 0,
     }
 }

@@ -1,12 +1,19 @@
--- The bitmap of a node's kept rows: there is one where a row is null, and its bits are those that stand in the journal. Assumes nothing.
-use Prim.Native.Nat.{ℕ, _+_, _*_}
+-- The bitmap of a node's kept rows: there is one where a row is null, its bits are those that stand in the journal, and by them the rows that are null are counted. Assumes nothing.
+use Prim.Native.Nat.{ℕ, _+_, _*_, _/_, _≤_}
 use mathlib.Core.Path.{_≡_, refl, sym, ap, ap₂, _∙_}
-use mathlib.Core.Bool.{Bool, true, false, true≢false}
+use mathlib.Core.Bool.{Bool, true, false, not, true≢false}
 use mathlib.Core.List.{List, [], _∷_, map}
-use native.Mathlib.Nat.{add-assoc}
-use Rattle.format.specs.Bytes.{bitAt, packed}
+use native.Mathlib.Nat.{zero-add, add-assoc}
+use native.Mathlib.Omega.{arith}
+use lib.ListN.{length, length-map}
+use Rattle.format.specs.Bytes.{chosen, bitIn, bitAt, bytesFor, packed}
 use Rattle.format.specs.Node.{skip, validityAt, hasNoBitmap, valid}
-use Rattle.format.specs.Write.{absent, holds, anyNull, bitmap}
+use Rattle.format.specs.Put.{Wrote}
+use Rattle.format.specs.Write.{absent, holds, nulls, anyNull, bitmap}
+use Rattle.format.proofs.Measure.{length-packed}
+use Rattle.format.proofs.NullLaws.{count-nulls}
+use Rattle.format.proofs.PackedLaws.{bit-packed}
+use Rattle.format.proofs.Put.{bit-put}
 use Rattle.bitmaps.specs.Push.{bitFrom}
 use Rattle.pack.specs.Read.{nodeOf}
 use Rattle.pack.specs.declared.Node.{Node}
@@ -43,10 +50,32 @@ unfolding bitmap
 bitmap-none vs h = rw h
 
 -- marks with a null as the code reads them, row 0 at bit `from`
-pub null-bitmap : (b : List ℕ) (i : ℕ) (rs : List ℕ) (from : ℕ) → anyNull (map (valid b i) rs) ≡ true → from ≡ 8 * validityAt b i + skip b i
-    → bitmap (map (valid b i) rs) ≡ holds (packed (map (bitFrom b from) rs))
-null-bitmap b i rs from h e =
-    bitmap-null (map (valid b i) rs) h ∙ ap (λ (vs : List Bool). holds (packed vs)) (marks-are b i rs (null-marked b i rs h) ∙ rw e)
+module _ (b : List ℕ) (i : ℕ) (rs : List ℕ) (from : ℕ) (h : anyNull (map (valid b i) rs) ≡ true) (e : from ≡ 8 * validityAt b i + skip b i) where
+  same-marks : map (valid b i) rs ≡ map (bitFrom b from) rs
+  same-marks = marks-are b i rs (null-marked b i rs h) ∙ rw e
+
+  pub null-bitmap : bitmap (map (valid b i) rs) ≡ holds (packed (map (bitFrom b from) rs))
+  null-bitmap = bitmap-null (map (valid b i) rs) h ∙ ap (λ (vs : List Bool). holds (packed vs)) same-marks
+
+  -- written at a place, they lie in the output, and as many of their bits are not set as rows are null
+  module _ (mid : List ℕ) (start n : ℕ) (fit : start + length (packed (map (bitFrom b from) rs)) ≤ length mid) (count : n ≡ length rs) where
+    sizes : (length (map (bitFrom b from) rs) ≡ n) × (start + (n + 7) / 8 ≤ length mid)
+    unfolding bytesFor
+    sizes =
+        let l : length (map (bitFrom b from) rs) ≡ n = length-map rs (bitFrom b from) ∙ sym count in
+        (l, rw (length-packed (map (bitFrom b from) rs), l) at fit)
+
+    pub bits-lie : 8 * start + (0 + n) ≤ 8 * length mid
+    bits-lie = omega (arith, sizes .1)
+
+    pub bits-null : {new : List ℕ} {next : ℕ} → Wrote mid start (packed (map (bitFrom b from) rs)) new next
+        → length (chosen (λ k. not (bitAt new start (0 + k))) n) ≡ nulls (map (valid b i) rs)
+    unfolding bitAt bytesFor
+    bits-null {new} w =
+        let vs : List Bool = map (bitFrom b from) rs in
+        rw (same-marks, ← sizes .0)
+        (count-nulls vs (λ k. bitIn new (8 * start + (0 + k)))
+        (λ r l. rw (w .bytes, zero-add) (bit-put mid start (packed vs) r (omega (arith, length-packed vs)) fit ∙ bit-packed vs r)))
 
 pub from-is : (b : List ℕ) (i : ℕ) (node : Node) → node ≡ nodeOf b i → 8 * node .«validity_at» + node .skip ≡ 8 * validityAt b i + skip b i
 from-is b i node e = rw e

@@ -4,7 +4,7 @@ use mathlib.Core.List.{List, [], _∷_, _++_}
 use lib.ListN.{length}
 use Rattle.format.specs.Node.{noBitmap}
 use Rattle.format.specs.Kept.{Column, KeptNode}
-use Rattle.format.specs.Write.{bitmap, first, second, dataLength}
+use Rattle.format.specs.Write.{nulls, bitmap, first, second, dataLength}
 use Rattle.buffers.specs.Place.{appended, ending, startOf}
 
 -- what a node's bitmap, first and second buffers add, in this order
@@ -30,5 +30,5 @@ nodeFields at c k =
     ∷ startOf 0 (ending at m) f
     ∷ startOf 0 (ending (ending at m) f) s
     ∷ dataLength (k .values)
-    ∷ 0
+    ∷ nulls (k .marks)
     ∷ []

@@ -7,7 +7,8 @@ ghost use lib.ListN.{length};
 ghost use Rattle.format.specs.Accepted.{Nests};
 ghost use Rattle.format.specs.Kept.{cells, keptSpans};
 ghost use Rattle.format.specs.Node.{valid, hasNoBitmap, noBitmap, rows, kind, param, child};
-ghost use Rattle.format.specs.Write.{anyNull, bitmap, first, second};
+ghost use Rattle.format.specs.Verdict.{packLimit};
+ghost use Rattle.format.specs.Write.{nulls, anyNull, bitmap, first, second};
 ghost use Rattle.buffers.specs.Place.{appended, rowsBy, Puts};
 ghost use Rattle.nodes.specs.Place.{Picked, Copies, Sizes, Kinded};
 ghost use Rattle.pack.specs.Read.{nodeOf};
@@ -20,7 +21,13 @@ use slots::Bits;
 // Validity at this place: no bitmap.
 pub const NO_BITMAP: usize = 0xFFFF_FFFF;
 
-// The bitmap of the kept rows, only if one of them is null.
+// Where the bitmap of a node's kept rows was put, and how many of these rows are null.
+pub struct Nulls {
+    pub placed: Placed,
+    pub count: usize,
+}
+
+// The bitmap of the `count` kept rows, only if one of them is null; these are counted in it.
 pub fn filter_nulls(
     out: &mut [u8],
     at: usize,
@@ -33,21 +40,28 @@ pub fn filter_nulls(
     mask: Bits,
     list: &[u32],
     count: usize,
-) -> Placed
+) -> Nulls
     requires { ⌜ Picked (now journal) i node sel (now s) mask (now list) ⌝ }
-    requires { ⌜ null ≡ anyNull (map (valid (now journal) i) (rowsBy sel (now s) mask)) ⌝ }
+    requires { ⌜ (null ≡ anyNull (map (valid (now journal) i) (rowsBy sel (now s) mask))) × (count ≡ length (rowsBy sel (now s) mask)) × (length (now out) ≤ packLimit) ⌝ }
     requires { ⌜ at + length (appended at (bitmap (map (valid (now journal) i) (rowsBy sel (now s) mask)))) ≤ length (now out) ⌝ }
-    ensures { λ r. ⌜ Puts noBitmap (bitmap (map (valid (now (journal .entry)) i) (rowsBy sel (now (s .entry)) mask))) (now (out .entry)) at (now (out .exit)) r ⌝ }
+    ensures { λ r. ⌜ Puts noBitmap (bitmap (map (valid (now (journal .entry)) i) (rowsBy sel (now (s .entry)) mask))) (now (out .entry)) at (now (out .exit)) (r .placed)
+        × (r .count ≡ nulls (map (valid (now (journal .entry)) i) (rowsBy sel (now (s .entry)) mask))) ⌝ }
 {
     if null {
         let start = append::fields::pad(out, at);
         let from = 8 * (node.validity_at as usize) + node.skip as usize;
         let next = bitmaps::filter_bits(out, start, journal, from, sel, s, mask, list, count);
-        return Placed { start, next };
+        return Nulls {
+            placed: Placed { start, next },
+            count: slots::null_count(out, start, 0, count),
+        };
     }
-    Placed {
-        start: NO_BITMAP,
-        next: at,
+    Nulls {
+        placed: Placed {
+            start: NO_BITMAP,
+            next: at,
+        },
+        count: 0,
     }
 }
 

@@ -22,7 +22,7 @@ use Rattle.format.proofs.Refusals.{passed, passed-verdict, passed-test, front}
 use Rattle.roundtrip.specs.Back.{Extracted, ReadBack, Then, allRows}
 use Rattle.roundtrip.proofs.Rows.{chosen-below, chosen-all}
 use Rattle.roundtrip.proofs.Again.{facts, rows-kept, columns-again, kept-again, extract-again}
-use Rattle.roundtrip.proofs.Shape.{size-right, mark-right, table-right, fields-right, tree-right, rows-right, buffers-right}
+use Rattle.roundtrip.proofs.Shape.{size-right, mark-right, table-right, fields-right, tree-right, rows-right, buffers-right, nulls-right}
 use Rattle.roundtrip.proofs.Content.{content-right}
 
 -- ---- a journal and its picked rows
@@ -30,7 +30,7 @@ use Rattle.roundtrip.proofs.Content.{content-right}
 pub accepted-again : {b rs : List ℕ} → Extracted b rs → journalVerdict (extract b rs) ≡ 0
 unfolding journalVerdict conditions firstOf
 accepted-again x =
-    rw (size-right x, mark-right x, table-right x, fields-right x, tree-right x, rows-right x, buffers-right x, content-right x)
+    rw (size-right x, mark-right x, table-right x, fields-right x, tree-right x, rows-right x, buffers-right x, content-right x, nulls-right x)
 
 pub read-back : {b rs : List ℕ} → Extracted b rs → ReadBack b rs
 read-back {b} {rs} x =

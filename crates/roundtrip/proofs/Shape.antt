@@ -1,4 +1,4 @@
--- Refusals 1 to 7 are false of an extract: size, mark, table, fields, tree, rows, and buffers in the body. Assumes nothing.
+-- Refusals 1 to 7 and 20 are false of an extract: size, mark, table, fields, tree, rows, buffers in the body, and null counts. Assumes nothing.
 use Prim.Native.Nat.{ℕ, zero, suc, _+_, _*_, _≤_, _<_}
 use mathlib.Core.Path.{_≡_, refl, sym, ap, ap₂, _∙_}
 use mathlib.Core.Bool.{Bool, true, false, not, _&&_, _||_, and-false, true≢false}
@@ -9,21 +9,22 @@ use lib.Dec.{eqb, ltb}
 use lib.ListN.{length, length-map}
 use Rattle.format.specs.declared.Kind.{Kind}
 use Rattle.format.specs.declared.Kind.the-variants.{Bits, Native, Fixed, Bytes32, Bytes64, Views, Lists32, Lists64, Runs, Struct, Union, Dictionary, Nested32, Nested64, Unknown}
-use Rattle.format.specs.Bytes.{anyBelow, bytesFor, bitAt, join, packed}
-use Rattle.format.specs.Node.{tableStart, nodeCount, rootRows, markOf, mark, kindNumber, kindOf, kind, ofKind, param, rows, skip, validityAt, firstAt, secondAt, secondLength, lastField, noBitmap, hasNoBitmap, valid, places, child}
+use Rattle.format.specs.Bytes.{anyBelow, chosen, bytesFor, bitAt, join, packed}
+use Rattle.format.specs.Node.{tableStart, nodeCount, rootRows, markOf, mark, oldMark, carriesCounts, nullCount, kindNumber, kindOf, kind, ofKind, param, rows, skip, validityAt, firstAt, secondAt, secondLength, lastField, noBitmap, hasNoBitmap, valid, places, child}
 use Rattle.format.specs.Node.{ancestors, parent, depth}
-use Rattle.format.specs.Verdict.{packLimit, wrongSize, wrongMark, wrongTable, wrongFields, wrongTree, wrongRows, wrongBuffers, badFields, layout, misused, notClosed, empty, badDataBuffer, badChildRows, badBuffers, firstSize, secondSize}
+use Rattle.format.specs.Verdict.{packLimit, wrongSize, wrongMark, wrongTable, wrongFields, wrongTree, wrongRows, wrongBuffers, wrongNulls, badFields, layout, misused, notClosed, empty, badDataBuffer, badChildRows, badBuffers, firstSize, secondSize}
 use Rattle.format.specs.Kept.{columns, cells, keptPart, keptRows, firstEntry, secondEntry, ownBytes, spanSize}
-use Rattle.format.specs.Write.{absent, holds, anyNull, bitmap, first, second, dataLength, total, numbers, offsets, ends, extract}
+use Rattle.format.specs.Write.{absent, holds, nulls, anyNull, bitmap, first, second, dataLength, total, numbers, offsets, ends, extract}
 use Rattle.format.specs.Accepted.{Shares}
 use Rattle.format.specs.Accepted as is
 use Rattle.format.proofs.Laws.{none-any, length-table, accepted}
+use Rattle.format.proofs.NullLaws.{count-nulls}
 use Rattle.format.proofs.Accepted.{or-left, or-right, below-root, kind-number}
 use Rattle.format.proofs.Measure.{length-write, length-packed, length-numbers}
 use Rattle.roundtrip.specs.Back.{Extracted}
 use Rattle.roundtrip.specs.Placed.{nodeAt}
 use Rattle.roundtrip.proofs.Parts.{length-entries}
-use Rattle.roundtrip.proofs.Written.{table-start, node-count, root-rows, mark-is, rows-back, last-back, length-back, no-bitmap, no-first, no-second, bitmap-lies, first-lies, second-lies}
+use Rattle.roundtrip.proofs.Written.{table-start, node-count, root-rows, mark-is, rows-back, last-back, valid-back, length-back, no-bitmap, no-first, no-second, bitmap-lies, first-lies, second-lies}
 use Rattle.roundtrip.proofs.Rows.{kept-shared, kept-below}
 use Rattle.roundtrip.proofs.Again.{facts, fits, inside, count-marks, same-count, same-number, same-kind, same-param, same-kids, rows-kept, none-skipped, same-ancestors, same-parent, marks-are, values-are, sizes, run-count, first-wide, second-wide, first-fits, second-fits}
 
@@ -69,9 +70,13 @@ module _ {b rs : List ℕ} (x : Extracted b rs) where
   size-right =
       or-none (le-ltb (length e) 16 (omega (arith, length-write (columns b) (keptPart b rs)))) (le-ltb packLimit (length e) (x .short))
 
+  counts-carried : carriesCounts e ≡ true
+  unfolding carriesCounts extract
+  counts-carried = eq-eqb (markOf e) mark (mark-is (columns b) (keptPart b rs) (fits x))
+
   pub mark-right : wrongMark e ≡ false
-  unfolding wrongMark extract
-  mark-right = ap not (eq-eqb (markOf e) mark (mark-is (columns b) (keptPart b rs) (fits x)))
+  unfolding wrongMark carriesCounts
+  mark-right = ap (λ (t : Bool). not (t || eqb (markOf e) oldMark)) counts-carried
 
   pub table-ends : tableStart e + 40 * nodeCount e + 16 ≡ length e
   unfolding extract
@@ -178,9 +183,20 @@ module _ {b rs : List ℕ} (x : Extracted b rs) where
     bitmap-used true q = refl
     bitmap-used false q = eq-eqb (validityAt e i) noBitmap (unmarked-again (facts x .fields i l .unmarked q))
 
-    last-used : misused false (lastField e i) ≡ false
+    last-used : misused (carriesCounts e) (lastField e i) ≡ false
+    unfolding misused
+    last-used = ap (λ (t : Bool). not (t || eqb (lastField e i) 0)) counts-carried
+
+    -- 20
+    nulls-counted : nullCount e i ≡ nulls (nodeAt (keptPart b rs) i .marks)
+    unfolding nullCount extract
+    nulls-counted =
+        ap (λ (n : ℕ). length (chosen (λ r. not (valid e i r)) n)) (rows-kept x i l ∙ sym (count-marks x i l))
+        ∙ count-nulls (nodeAt (keptPart b rs) i .marks) (valid e i) (valid-back (columns b) (keptPart b rs) (fits x) i (inside x i l))
+
+    count-right : not (eqb (lastField e i) (nullCount e i)) ≡ false
     unfolding extract
-    last-used = zero-unused (lastField e i) (last-back (columns b) (keptPart b rs) (fits x) i (inside x i l))
+    count-right = ap not (eq-eqb (lastField e i) (nullCount e i) (last-back (columns b) (keptPart b rs) (fits x) i (inside x i l) ∙ sym nulls-counted))
 
     node-fields : badFields (layout (kind e i)) e i ≡ false
     unfolding badFields
@@ -201,6 +217,10 @@ module _ {b rs : List ℕ} (x : Extracted b rs) where
   pub fields-right : wrongFields e ≡ false
   unfolding wrongFields
   fields-right = each-node (λ i. badFields (layout (kind e i)) e i) node-fields
+
+  pub nulls-right : wrongNulls e ≡ false
+  unfolding wrongNulls
+  nulls-right = rw counts-carried (each-node (λ i. not (eqb (lastField e i) (nullCount e i))) count-right)
 
   -- 5
   closed-again : notClosed e ≡ notClosed b

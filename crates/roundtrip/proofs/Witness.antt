@@ -56,7 +56,7 @@ reads-back = read-back premises-hold
 lists : List ℕ
 lists =
     padded (numbers 4 (9 ∷ 1 ∷ 3 ∷ 4 ∷ 5 ∷ [])) ++ padded (numbers 4 (60 ∷ 70 ∷ 80 ∷ 90 ∷ 100 ∷ [])) ++ padded (0x0A ∷ [])
-    ++ numbers 4 (13 ∷ 0 ∷ 3 ∷ 1 ∷ 1 ∷ 48 ∷ 0 ∷ 0 ∷ 0 ∷ 0 ∷ [])
+    ++ numbers 4 (13 ∷ 0 ∷ 3 ∷ 1 ∷ 1 ∷ 48 ∷ 0 ∷ 0 ∷ 0 ∷ 1 ∷ [])
     ++ numbers 4 (2 ∷ 4 ∷ 5 ∷ 0 ∷ 0 ∷ noBitmap ∷ 24 ∷ 0 ∷ 0 ∷ 0 ∷ [])
     ++ numbers 4 (56 ∷ 2 ∷ 3 ∷ mark ∷ [])
 

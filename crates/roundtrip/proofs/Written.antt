@@ -12,8 +12,9 @@ use Rattle.format.specs.Bytes.{table, join, le, bytesAt, raised, padded, packed
 use Rattle.format.specs.Node.{tableStart, nodeCount, rootRows, markOf, mark, noBitmap, field, kindNumber, param, rows, skip, kids, validityAt, firstAt, secondAt, secondLength, lastField, hasNoBitmap, valid}
 use Rattle.format.specs.Verdict.{packLimit}
 use Rattle.format.specs.Kept.{Column, KeptNode, Cells, flags, entries, texts, ranges, groups, spans, nothing}
-use Rattle.format.specs.Write.{Buffer, absent, holds, numbers, with, place, addNode, written, write, anyNull, bitmap, first, second, dataLength}
+use Rattle.format.specs.Write.{Buffer, absent, holds, numbers, with, place, addNode, written, write, nulls, anyNull, bitmap, first, second, dataLength}
 use Rattle.format.proofs.Laws.{join-append, length-table, getD-table}
+use Rattle.format.proofs.NullLaws.{few-nulls}
 use Rattle.format.proofs.Measure.{length-padded, length-nodes, length-write, length-packed, length-numbers}
 use Rattle.roundtrip.specs.Placed.{Starts, Lies, Fits, afterBitmap, afterFirst, columnAt, nodeAt, bodyAt, fieldsAt}
 use Rattle.roundtrip.proofs.Parts.{bytes-left, bytes-right, bytes-front, le-part, le-right, entry-part, number-at, bit-part}
@@ -233,9 +234,9 @@ module _ (cs : List Column) (ks : List KeptNode) where
       length-back =
           field-at 8 (lit< tt) (omega (arith, node-limit, dataLength-lt (afterFirst (nodeAt ks i) (bodyAt cs ks i)) (nodeAt ks i .values)))
 
-      pub last-back : lastField (write cs ks) i ≡ 0
+      pub last-back : lastField (write cs ks) i ≡ nulls (nodeAt ks i .marks)
       unfolding lastField
-      last-back = field-at 9 (lit< tt) (lit< tt)
+      last-back = field-at 9 (lit< tt) (omega (arith, few-nulls (nodeAt ks i .marks), fits .rows i h))
 
       -- the three buffers, each at its place before the table
       node-inside : length (bodyAt cs ks (suc i)) ≤ tableStart (write cs ks)

@@ -7,7 +7,7 @@ use Rattle.format.specs.Bytes.{bytesAt}
 use Rattle.format.specs.Node.{noBitmap}
 use Rattle.format.specs.Verdict.{packLimit}
 use Rattle.format.specs.Kept.{Column, KeptNode}
-use Rattle.format.specs.Write.{bitmap, first, second, dataLength, with, place, written, write, noColumn, noNode}
+use Rattle.format.specs.Write.{nulls, bitmap, first, second, dataLength, with, place, written, write, noColumn, noNode}
 
 -- ys starts with xs
 pub record Starts (xs ys : List ℕ) : Type 0 where
@@ -38,7 +38,7 @@ fieldsOf c k body =
     ∷ place 0 (afterBitmap k body) (first (k .values))
     ∷ place 0 (afterFirst k body) (second (k .values))
     ∷ dataLength (k .values)
-    ∷ 0
+    ∷ nulls (k .marks)
     ∷ []
 
 -- node i's column, its share of the kept part, and the body before it

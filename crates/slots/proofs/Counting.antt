@@ -1,6 +1,6 @@
--- Loops that count picked slots word by word, by the set bits of each. Assumes nothing.
-use Prim.Native.Nat.{ℕ, _+_, _*_, _/_, _%_, _≤_, _<_}
-use mathlib.Core.Bool.{Bool, true, false, _&&_}
+-- Loops that count picked slots word by word, by the set bits of each; and the rows that a bitmap marks null. Assumes nothing.
+use Prim.Native.Nat.{ℕ, _+_, _-_, _*_, _/_, _%_, _≤_, _<_}
+use mathlib.Core.Bool.{Bool, true, false, not, _&&_}
 use mathlib.Core.List.{List}
 use mathlib.Core.Path.{_≡_, refl, sym, ap, ap₂, _∙_}
 use native.Mathlib.Nat.{zero-add}
@@ -8,8 +8,9 @@ use native.Mathlib.Omega.{arith}
 use lib.Bits.{bitAnd}
 use lib.Count.{ones, ones-le}
 use lib.ListN.{length, getD}
-use Rattle.format.specs.Bytes.{le, bitIn, bitAt}
+use Rattle.format.specs.Bytes.{le, chosen, bitIn, bitAt}
 use Rattle.format.specs.Slots.{wordFrom, picksFrom}
+use Rattle.format.proofs.NullLaws.{not-picked}
 use Rattle.format.proofs.SlotLaws.{count-cat, count-le, picks-ext}
 use Rattle.format.proofs.WordLaws.{from-le, from-shift, from-and, from-ones, from-lt}
 use Rattle.slots.specs.declared.Bits.{Bits}
@@ -76,3 +77,12 @@ module _ (s : List ℕ) (b : Bits) (n : ℕ) (h : ByteWords b n) where
       (λ j _ l.
       let k : j < 64 * n = omega arith in
       sym (slot-is s b j (inside j k) ∙ rw (e, place (b .«values_at») j k, place (b .«validity_at») j k)))
+
+-- the rows that one bitmap marks, taken from all
+module _ (s : List ℕ) (b : Bits) (e : b .«has_validity» ≡ false) where
+  marked-rows : picksFrom (slotOf s b) (b .len) 0 ≡ picksFrom (λ j. bitAt s (b .«values_at») (b .skip + j)) (b .len) 0
+  unfolding bitAt
+  marked-rows = picks-ext _ _ (b .len) 0 (λ j _ h. slot-is s b j (omega arith) ∙ set-plain s b j e)
+
+  pub null-rows : b .len - length (picksFrom (slotOf s b) (b .len) 0) ≡ length (chosen (λ j. not (bitAt s (b .«values_at») (b .skip + j))) (b .len))
+  null-rows = rw marked-rows (not-picked _ (b .len))

@@ -1,9 +1,9 @@
 // Bit sources: packed bits with an optional validity bitmap in a lent slice of bytes, read by slot, by word and by window, and counted.
-ghost use mathlib.Core.Bool.{_&&_};
+ghost use mathlib.Core.Bool.{not, _&&_};
 ghost use mathlib.Core.Path.{_≡_};
 ghost use Prim.Native.Nat.{_+_, _*_, _-_, _/_, _%_, _^_, _≤_, _<_};
 ghost use lib.ListN.{length, getD};
-ghost use Rattle.format.specs.Bytes.{bitIn, bitAt};
+ghost use Rattle.format.specs.Bytes.{bitIn, bitAt, chosen};
 ghost use Rattle.format.specs.Slots.{after, wordFrom, picksFrom};
 ghost use Rattle.slots.specs.Source.{bothSet, slotOf, wordAt, Lies, ByteWords};
 
@@ -278,4 +278,19 @@ pub fn count(s: &[u8], b: Bits) -> usize
         w += 1;
     }
     n
+}
+
+// How many of the rows from skip on a bitmap at a place marks null: all but those that it marks valid.
+pub fn null_count(s: &[u8], at: usize, skip: usize, rows: usize) -> usize
+    requires { ⌜ (length (now s) < 2 ^ 60) × (8 * at + (skip + rows) ≤ 8 * length (now s)) ⌝ }
+    ensures { λ r. ⌜ r ≡ length (chosen (λ k. not (bitAt (now (s .entry)) at (skip + k))) rows) ⌝ }
+{
+    let marks = Bits {
+        values_at: at,
+        has_validity: false,
+        validity_at: 0,
+        skip,
+        len: rows,
+    };
+    rows - count(s, marks)
 }

@@ -24,7 +24,7 @@ use Rattle.format.specs.Refusal as Refusals
 use Rattle.format.specs.Answer as Answers
 use Rattle.format.specs.Answer.{callOf, statedIf, scratchNeeded, listShort, scratchShort, answer, outputAfter, listAfter, scratchAfter}
 use Rattle.format.proofs.Demand3.{Alike, Same}
-use Rattle.format.proofs.Cases.{pack, node, maskOf, call, abcde, pieces, place, tightJournal, looseJournal, one-way, other-way, premises-hold, premises-succeed}
+use Rattle.format.proofs.Cases.{marked, pack, oldPack, counting, node, maskOf, call, abcde, pieces, place, tightJournal, looseJournal, one-way, other-way, premises-hold, premises-succeed}
 use Rattle.filter.proofs.Demand3.{Filtered, seen, demand3}
 
 -- a call of `filter`: its contract leaves nothing open, so what it answers and leaves is what the definitions say of its arguments
@@ -53,7 +53,7 @@ unstated : Filtered
 unstated = ran (maskOf 5 0x09) tightJournal false 7 false [] (9 ∷ 9 ∷ []) (replicate 528 7)
 
 unstated′ : Filtered
-unstated′ = ran (pack (0x7F ∷ 0xD2 ∷ []) (node 1 0 5 1 0 1 0 ∷ []) 5) looseJournal false 0 true (1 ∷ 2 ∷ 3 ∷ []) (8 ∷ 8 ∷ 8 ∷ []) (replicate 528 7)
+unstated′ = ran (oldPack (0x7F ∷ 0xD2 ∷ []) (node 1 0 5 1 0 1 0 ∷ []) 5) looseJournal false 0 true (1 ∷ 2 ∷ 3 ∷ []) (8 ∷ 8 ∷ 8 ∷ []) (replicate 528 7)
 
 unstated-alike : Same (seen unstated) (seen unstated′)
 unfolding unstated unstated′ one-way other-way call
@@ -99,14 +99,14 @@ tightUnion =
     ∷ node 2 1 14 0 0 noBitmap (place 5 tight)
     ∷ (7 ∷ 0 ∷ 3 ∷ 0 ∷ 1 ∷ noBitmap ∷ place 6 tight ∷ place 7 tight ∷ 0 ∷ 0 ∷ [])
     ∷ node 2 2 3 0 0 noBitmap (place 8 tight)
-    ∷ (8 ∷ 0 ∷ 3 ∷ 0 ∷ 1 ∷ place 9 tight ∷ place 10 tight ∷ place 11 tight ∷ 0 ∷ 0 ∷ [])
+    ∷ (8 ∷ 0 ∷ 3 ∷ 0 ∷ 1 ∷ place 9 tight ∷ place 10 tight ∷ place 11 tight ∷ 0 ∷ 1 ∷ [])
     ∷ node 2 4 2 0 0 noBitmap (place 12 tight)
     ∷ node 14 0 3 0 1 noBitmap (place 13 tight)
     ∷ node 2 2 3 0 0 noBitmap (place 14 tight)
     ∷ [])
     3
 
--- four rows, skips, bitmaps in which no kept row is null but that one, other ids, entries, texts, views, ranges and lists in the dropped rows, bytes and child
+-- the old mark, four rows, skips, bitmaps in which no kept row is null but that one, other ids, entries, texts, views, ranges and lists in the dropped rows, bytes and child
 -- rows that no kept row has, a wild id and wild ranges before skip, spare bits set, a buffer that nothing uses
 loose : List (List ℕ)
 loose =
@@ -132,7 +132,7 @@ loose =
 
 looseUnion : List ℕ
 looseUnion =
-    pack (pieces loose)
+    oldPack (pieces loose)
     (node 11 0 4 1 6 noBitmap (place 1 loose)
     ∷ node 3 3 4 0 0 (place 3 loose) (place 2 loose)
     ∷ (5 ∷ 0 ∷ 4 ∷ 1 ∷ 0 ∷ noBitmap ∷ place 4 loose ∷ place 5 loose ∷ 12 ∷ 0 ∷ [])
@@ -152,64 +152,64 @@ plainMask : List ℕ
 plainMask = maskOf 3 0x05
 
 nullMask : List ℕ
-nullMask = pack (0xFF ∷ 0xF4 ∷ []) (node 1 0 3 2 0 1 0 ∷ []) 3
+nullMask = pack (0xFF ∷ 0xF4 ∷ []) (counting 1 0 3 2 0 1 0 1 ∷ []) 3
 
 -- ---- each premise by itself, computed
 
 plain-accepted : maskVerdict plainMask ≡ 0
-unfolding Bytes.opened Node.opened Verdict.opened Write.opened pack node maskOf plainMask
+unfolding Bytes.opened Node.opened Verdict.opened Write.opened marked pack oldPack counting node maskOf plainMask
 plain-accepted = refl
 
 null-accepted : maskVerdict nullMask ≡ 0
-unfolding Bytes.opened Node.opened Verdict.opened Write.opened pack node nullMask
+unfolding Bytes.opened Node.opened Verdict.opened Write.opened marked pack oldPack counting node nullMask
 null-accepted = refl
 
 tight-accepted : journalVerdict tightUnion ≡ 0
-unfolding Bytes.opened Node.opened Verdict.opened Write.opened pack node abcde pieces place fghijklmn tight tightUnion
+unfolding Bytes.opened Node.opened Verdict.opened Write.opened marked pack oldPack counting node abcde pieces place fghijklmn tight tightUnion
 tight-accepted = refl
 
 loose-accepted : journalVerdict looseUnion ≡ 0
-unfolding Bytes.opened Node.opened Verdict.opened Write.opened pack node abcde pieces place fghijklmn loose looseUnion
+unfolding Bytes.opened Node.opened Verdict.opened Write.opened marked pack oldPack counting node abcde pieces place fghijklmn loose looseUnion
 loose-accepted = refl
 
 as-long : maskLength plainMask ≡ maskLength nullMask
-unfolding Bytes.opened Node.opened Masks.opened Write.opened pack node maskOf plainMask nullMask
+unfolding Bytes.opened Node.opened Masks.opened Write.opened marked pack oldPack counting node maskOf plainMask nullMask
 as-long = refl
 
 one-pick : picks plainMask ≡ 0 ∷ 2 ∷ []
-unfolding Bytes.opened Node.opened Masks.opened Write.opened pack node maskOf plainMask
+unfolding Bytes.opened Node.opened Masks.opened Write.opened marked pack oldPack counting node maskOf plainMask
 one-pick = refl
 
 same-pick : picks nullMask ≡ 0 ∷ 2 ∷ []
-unfolding Bytes.opened Node.opened Masks.opened Write.opened pack node nullMask
+unfolding Bytes.opened Node.opened Masks.opened Write.opened marked pack oldPack counting node nullMask
 same-pick = refl
 
 tight-long : maskLength plainMask ≤ rows tightUnion 0
-unfolding Bytes.opened Node.opened Masks.opened Write.opened pack node maskOf abcde pieces place fghijklmn tight tightUnion plainMask
+unfolding Bytes.opened Node.opened Masks.opened Write.opened marked pack oldPack counting node maskOf abcde pieces place fghijklmn tight tightUnion plainMask
 tight-long = lit≤ tt
 
 loose-long : maskLength nullMask ≤ rows looseUnion 0
-unfolding Bytes.opened Node.opened Masks.opened Write.opened pack node abcde pieces place fghijklmn loose looseUnion nullMask
+unfolding Bytes.opened Node.opened Masks.opened Write.opened marked pack oldPack counting node abcde pieces place fghijklmn loose looseUnion nullMask
 loose-long = lit≤ tt
 
 same-columns : columns tightUnion ≡ columns looseUnion
-unfolding Bytes.opened Node.opened Kept.opened Write.opened pack node abcde pieces place fghijklmn tight tightUnion loose looseUnion
+unfolding Bytes.opened Node.opened Kept.opened Write.opened marked pack oldPack counting node abcde pieces place fghijklmn tight tightUnion loose looseUnion
 same-columns = refl
 
 same-kept : keptPart tightUnion (0 ∷ 2 ∷ []) ≡ keptPart looseUnion (0 ∷ 2 ∷ [])
-unfolding Bytes.opened Node.opened Kept.opened Write.opened pack node abcde pieces place fghijklmn tight tightUnion loose looseUnion
+unfolding Bytes.opened Node.opened Kept.opened Write.opened marked pack oldPack counting node abcde pieces place fghijklmn tight tightUnion loose looseUnion
 same-kept = refl
 
 two-entries : length (entries nullMask) ≡ 2
-unfolding Bytes.opened Node.opened Masks.opened Write.opened pack node nullMask
+unfolding Bytes.opened Node.opened Masks.opened Write.opened marked pack oldPack counting node nullMask
 two-entries = refl
 
 tight-scratch : scratchNeeded tightUnion ≡ 1
-unfolding Bytes.opened Node.opened Write.opened Answers.opened pack node abcde pieces place fghijklmn tight tightUnion
+unfolding Bytes.opened Node.opened Write.opened Answers.opened marked pack oldPack counting node abcde pieces place fghijklmn tight tightUnion
 tight-scratch = refl
 
 loose-scratch : scratchNeeded looseUnion ≡ 1
-unfolding Bytes.opened Node.opened Write.opened Answers.opened pack node abcde pieces place fghijklmn loose looseUnion
+unfolding Bytes.opened Node.opened Write.opened Answers.opened marked pack oldPack counting node abcde pieces place fghijklmn loose looseUnion
 loose-scratch = refl
 
 -- whatever count is stated and whatever the outputs are, if both calls have the same
@@ -249,7 +249,7 @@ unfolding counted counted′
 counted-alike = demand3 counted counted′ (alike true 2 (replicate 656 7))
 
 counted-succeeds : counted .answer ≡ Done 2 3 Indices 656
-unfolding Bytes.opened Node.opened Verdict.opened Masks.opened Kept.opened Write.opened Refusals.opened Answers.opened pack node maskOf abcde pieces place fghijklmn tight tightUnion plainMask counted
+unfolding Bytes.opened Node.opened Verdict.opened Masks.opened Kept.opened Write.opened Refusals.opened Answers.opened marked pack oldPack counting node maskOf abcde pieces place fghijklmn tight tightUnion plainMask counted
 counted-succeeds = refl
 
 -- ---- one byte of output too few
@@ -265,5 +265,5 @@ unfolding short short′
 short-alike = demand3 short short′ (alike false 0 (replicate 655 7))
 
 short-refused : short .answer ≡ Refused 14 Journal
-unfolding Bytes.opened Node.opened Verdict.opened Masks.opened Kept.opened Write.opened Refusals.opened Answers.opened pack node maskOf abcde pieces place fghijklmn tight tightUnion plainMask short
+unfolding Bytes.opened Node.opened Verdict.opened Masks.opened Kept.opened Write.opened Refusals.opened Answers.opened marked pack oldPack counting node maskOf abcde pieces place fghijklmn tight tightUnion plainMask short
 short-refused = refl

@@ -1,7 +1,7 @@
 // A whole extract: the nodes one after another, then the table and the trailer.
 ghost use mathlib.Core.Path.{_≡_};
-ghost use mathlib.Core.List.{map, _∷_, []};
-ghost use Prim.Native.Nat.{_+_, _*_, _^_, _≤_, _<_};
+ghost use mathlib.Core.List.{_∷_, []};
+ghost use Prim.Native.Nat.{_+_, _≤_};
 ghost use lib.ListN.{length};
 ghost use Rattle.format.specs.Node.{nodeCount, mark};
 ghost use Rattle.format.specs.Put.{Wrote};
@@ -17,8 +17,8 @@ use nesting::table::node_count;
 use predicate::Selection;
 use slots::Bits;
 
-// The last number of a trailer: the bytes 43 4F 4C 50 (docs/FORMAT.md, 3.1).
-const MARK: u32 = 0x504C_4F43;
+// The last number of a trailer: the bytes 43 4F 4C 51, the mark of a pack whose nodes carry their null counts (docs/FORMAT.md, 3.1).
+const MARK: u32 = 0x514C_4F43;
 
 // The buffers of all nodes, from the front of the output, and their fields. Where the body ends.
 fn filter_nodes(

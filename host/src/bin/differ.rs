@@ -12,7 +12,7 @@
 //! The last line is 'N passed, M failed'. The smallest failing input of each run is printed in hex.
 use host::compare::{self, Journal};
 use host::make::*;
-use host::model::{self, Picks};
+use host::model::{self, LAST_REFUSAL, Picks};
 use host::pack::*;
 use host::paper;
 use host::port::{Model, Port};
@@ -131,8 +131,8 @@ struct Cover {
     lists: Lists,
     routes: [u64; 4],
     kinds: [u64; KINDS + 1],
-    verdicts: [u64; 10],
-    answers: [u64; 15],
+    verdicts: [u64; LAST_REFUSAL + 1],
+    answers: [u64; LAST_REFUSAL + 1],
 }
 
 /// A mask and a journal, a third of the time with damage to one; and whether both are as made.
@@ -179,7 +179,8 @@ fn random(seed: u64, count: u64) -> Tally {
     println!("compared with filter.rs: {}; by route none, all, slices, indices: {:?}", cover.compared, cover.routes);
     println!("nodes compared, by kind: {:?}", &cover.kinds[1..]);
     cover.lists.report();
-    println!("verdicts on both packs, 0 to 9: {:?}; the port's answers, 0 to 14: {:?}", cover.verdicts, cover.answers);
+    println!("verdicts on both packs, by number: {}", compare::by_number(&cover.verdicts));
+    println!("the port's answers, by number: {}", compare::by_number(&cover.answers));
     tally.report(&format!("random, seed {seed}"));
     tally
 }
@@ -353,8 +354,10 @@ fn list(seed: u64, count: u64, folder: &str) -> Tally {
     let written = list.write(&title, std::path::Path::new(folder));
     tally.case("written", &[], || written.map_err(|e| format!("{folder}: {e}")));
     println!(
-        "answers, 0 to 14: {:?}; by route none, all, slices, indices: lazy {:?}, stored {:?}",
-        list.answers, list.lazy, list.stored
+        "answers, by number: {}; by route none, all, slices, indices: lazy {:?}, stored {:?}",
+        compare::by_number(&list.answers),
+        list.lazy,
+        list.stored
     );
     println!("nodes of accepted journals, by kind: {:?}", &list.kinds[1..]);
     tally.report(&format!("list, seed {seed}"));
@@ -370,6 +373,7 @@ fn paper() -> Tally {
         .chain(paper::refusals())
         .chain(paper::lists())
         .chain(paper::true_views())
+        .chain(paper::null_counts())
         .chain(paper::limits())
     {
         // the big ones are not for reading

@@ -6,7 +6,7 @@ use crate::pack::*;
 pub fn damage(r: &mut Rng, pack: &[u8]) -> Vec<u8> {
     let mut pack = pack.to_vec();
     for _ in 0..r.pick(&[1, 1, 1, 2, 3]) {
-        match r.below(15) {
+        match r.below(18) {
             0 => return resize(r, pack),
             1 => {
                 let at = r.below(pack.len());
@@ -15,7 +15,8 @@ pub fn damage(r: &mut Rng, pack: &[u8]) -> Vec<u8> {
             2 => trailer(r, &mut pack),
             3..=5 => field(r, &mut pack),
             6..=8 => tree(r, &mut pack),
-            9 => view(r, &mut pack),
+            9 | 10 => view(r, &mut pack),
+            11 | 12 => count(r, &mut pack),
             _ => entry(r, &mut pack),
         }
     }
@@ -139,8 +140,33 @@ fn tree(r: &mut Rng, pack: &mut Vec<u8>) {
         _ => nodes[at].param = r.pick(&[0, 1, 2, 4, 8, 16, 32]),
     }
     if nodes.len() <= NODE_LIMIT + 1 {
-        *pack = finish(body, &nodes);
+        let mark = if read.counted { MARK } else { OLD_MARK };
+        *pack = finish_as(body, &nodes, mark);
     }
+}
+
+/// A null count: next to the true one, that of other rows, that of the valid ones; or the other mark.
+fn count(r: &mut Rng, pack: &mut [u8]) {
+    let Some((start, nodes)) = table(pack) else { return };
+    let i = r.below(nodes);
+    let n = Pack::read(pack).unwrap().nodes[i];
+    let last = pack.len() - 1;
+    if r.percent(30) {
+        pack[last] ^= MARK[3] ^ OLD_MARK[3];
+        return;
+    }
+    // the rows passed over counted too, or the first ones in place of the last
+    let bits = |rows: std::ops::Range<usize>| rows.filter(|row| !bit(pack, n.validity as usize, *row)).count() as u32;
+    let marked = n.validity != NO_BITMAP && n.validity as usize + n.span().div_ceil(8) <= start;
+    let new = match r.below(6) {
+        0 => n.nulls.wrapping_add(1),
+        1 => n.nulls.wrapping_sub(1),
+        2 => n.rows.wrapping_sub(n.nulls),
+        3 if marked => bits(0..n.span()),
+        4 if marked => bits(0..n.rows as usize),
+        _ => 0,
+    };
+    pack[start + NODE_BYTES * i + 36..][..4].copy_from_slice(&new.to_le_bytes());
 }
 
 /// A number in a node's first or second buffer: an offset, a size, a part of a view, a run end, an id or a key. It becomes one

@@ -44,7 +44,12 @@ pub fn lay(r: &mut Rng, column: &Column) -> Vec<u8> {
         let tail = r.below(12);
         body.extend(r.bytes(tail));
     }
-    finish(body, &nodes)
+    finish_any(r, body, &nodes)
+}
+
+/// A pack with its null counts, or now and then with the old mark and none.
+pub fn finish_any(r: &mut Rng, body: Vec<u8>, nodes: &[Node]) -> Vec<u8> {
+    if r.percent(25) { finish_as(body, nodes, OLD_MARK) } else { finish(body, nodes) }
 }
 
 /// A place where the bytes stand already; only looked for in small bodies.
@@ -142,5 +147,6 @@ pub fn overlap(r: &mut Rng, pack: &mut Vec<u8>) {
             n.validity = r.below(body.len() - bitmap + 1) as u32;
         }
     }
-    *pack = finish(body, &nodes);
+    // the null counts follow the bitmaps
+    *pack = if read.counted { finish(body, &nodes) } else { finish_as(body, &nodes, OLD_MARK) };
 }

@@ -96,5 +96,5 @@ pub fn mask_pack(r: &mut Rng, picks: &[bool]) -> Vec<u8> {
         n.validity = body.len() as u32;
         body.extend(layout::bits(r, skip, &valid));
     }
-    finish(body, &[n])
+    layout::finish_any(r, body, &[n])
 }

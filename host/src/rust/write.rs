@@ -14,7 +14,7 @@ pub fn write(journal: &Pack, result: &ArrayRef) -> Vec<u8> {
     let mut writer = Writer { journal, body: vec![], nodes: vec![] };
     writer.node(0, Some(result.clone()));
     writer.put(&[]);
-    finish(writer.body, &writer.nodes)
+    finish_as(writer.body, &writer.nodes, MARK)
 }
 
 struct Writer<'a> {
@@ -47,6 +47,7 @@ impl Writer<'_> {
         let mut n = Node::new(source.kind, source.param, rows, source.kids as usize);
         if let Some(nulls) = array.as_ref().and_then(|a| a.nulls()).filter(|nulls| nulls.null_count() != 0) {
             n.validity = self.put(&packed(nulls.inner()));
+            n.nulls = nulls.null_count() as u32;
         }
         let parts = match &array {
             Some(array) => parts(&source, array.as_ref()),

@@ -1,6 +1,6 @@
 -- `body::put_listed` meets its contract: the entries by the list's offsets, then the fields. Assumes nothing.
 use Prim.Native.Nat.{suc, _+_, _≤_}
-use mathlib.Core.Path.{_≡_, _∙_}
+use mathlib.Core.Path.{_≡_}
 use native.Mathlib.Numerals.{add-one}
 use native.Mathlib.Omega.{arith}
 use borrow.Author.Needs.{needs}
@@ -11,7 +11,7 @@ use Rattle.nodes.specs.Body.{nodeBody}
 use Rattle.buffers.specs.Place.{rowsBy}
 use Rattle.pack.specs.Read.{nodeOf}
 use Rattle.nesting.proofs.Direct.{list-unmarked, entries-unmarked}
-use Rattle.body.proofs.KeptLaws.{picked-of, validity-fits, first-fits, second-fits, data-fits, written-of}
+use Rattle.body.proofs.KeptLaws.{picked-of, validity-fits, first-fits, second-fits, data-fits, nulls-fit, written-of}
 use Rattle.body.proofs.Listed.{flat-of}
 use Rattle.body.proofs.put_listed.Statement.{statement}
 use Rattle.body.proofs.put_listed.Tie as tie
@@ -38,11 +38,11 @@ small c = omega (arith, c .pre .0 .3, c .pre .1 .1 .1)
 
 returns : tie.Need-returns
 returns c =
-    let b = c .before .before .before .before .before .before .before .before .before .before .before .before .before .before .before .before .before .before .before in
+    let b = c .before .before .before .before .before .before .before .before .before .before .before .before .before .before .before .before .before .before .before .before in
     let a = b .args in
     let rs = keptSpans (a .w) (a .journal .now) (a .i) (rowsBy (a .sel) (a .s .now) (a .bits)) in
-    written-of (a .journal .now) (suc (a .i)) rs (c .before .before .before .before .before .before .before .before .before .before .put-values .ensures) _ _ (a .fields .now) _
-    (node-is (c .before .before .before .before .before .before .before .before .before .before .before .before)) (b .pre .1 .1 .0 .2) (rw (add-one (a .i)) at (c .before .before .put-node .ensures))
+    written-of (a .journal .now) (suc (a .i)) rs (c .before .before .before .before .before .before .before .before .before .before .before .put-values .ensures) _ _ (a .fields .now) _
+    (node-is (c .before .before .before .before .before .before .before .before .before .before .before .before .before)) (b .pre .1 .1 .0 .2) (rw (add-one (a .i)) at (c .before .before .put-node .ensures))
 
 pub put-listed-spec : {M : Type 1} → statement M
 put-listed-spec =
@@ -61,7 +61,13 @@ put-listed-spec =
     (λ c. omega (arith, first-fits (c .before .before .before .before .before .put-values .ensures) (small (c .before .before .before .before .before .before .before .before .before .before .before .before .before .before))))
     (λ c. omega (arith, second-fits (c .before .before .before .before .before .before .put-values .ensures) (small (c .before .before .before .before .before .before .before .before .before .before .before .before .before .before .before))))
     (λ c. omega (arith, data-fits (c .before .before .before .before .before .before .before .put-values .ensures) (small (c .before .before .before .before .before .before .before .before .before .before .before .before .before .before .before .before))))
-    (λ c κs. let q = c .before .before .before .before .before .before .before .before .before .before .before .before .before .before .before .before .pre .0 in omega (arith, q .1, q .2, q .0 .shape .few))
+    (λ c.
+    let b = c .before .before .before .before .before .before .before .before .before .before .before .before .before .before .before .before .before in
+    let a = b .args in
+    let rs = keptSpans (a .w) (a .journal .now) (a .i) (rowsBy (a .sel) (a .s .now) (a .bits)) in
+    let l = b .pre .1 .1 .0 in
+    omega (arith, nulls-fit (a .journal .now) (suc (a .i)) rs (c .before .before .before .before .before .before .before .before .put-values .ensures) (omega (arith, l .2, l .3))))
+    (λ c κs. let q = c .before .before .before .before .before .before .before .before .before .before .before .before .before .before .before .before .before .pre .0 in omega (arith, q .1, q .2, q .0 .shape .few))
     (λ c. search needs)
     (λ c. search needs)
     returns)

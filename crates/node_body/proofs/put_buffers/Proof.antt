@@ -15,14 +15,14 @@ filter-first-requires : tie.Need-filter-first-requires
 filter-first-requires c κs =
     let b = c .before .before .before .before .before .before .before .before .before in
     let a = b .args in
-    let v = c .before .before .before .filter-nulls .ensures in
+    let v = c .before .before .before .filter-nulls .ensures .0 in
     (b .pre .0, (b .pre .1 .0, first-room (a .journal .now) (a .i) (rowsBy (a .sel) (a .s .now) (a .bits)) (a .at) (a .out .now) (b .pre .1 .1 .1) v))
 
 filter-second-requires : tie.Need-filter-second-requires
 filter-second-requires c κs =
     let b = c .before .before .before .before .before .before .before .before .before .before .before .before .before in
     let a = b .args in
-    let v = c .before .before .before .before .before .before .before .filter-nulls .ensures in
+    let v = c .before .before .before .before .before .before .before .filter-nulls .ensures .0 in
     let f = c .before .before .before .filter-first .ensures in
     (b .pre .0, (b .pre .1 .0 .is, second-room (a .journal .now) (a .i) (rowsBy (a .sel) (a .s .now) (a .bits)) (a .at) (a .out .now) (b .pre .1 .1 .1) v f))
 
@@ -33,7 +33,7 @@ returns c =
     let v = c .before .before .before .before .before .before .before .before .before .before .before .filter-nulls .ensures in
     let f = c .before .before .before .before .before .before .before .filter-first .ensures in
     let d = c .before .before .before .filter-second .ensures in
-    added (a .journal .now) (a .i) (rowsBy (a .sel) (a .s .now) (a .bits)) v f d (a .k) _ (b .pre .1 .0 .is) (c .data-size .ensures)
+    added (a .journal .now) (a .i) (rowsBy (a .sel) (a .s .now) (a .bits)) (v .0) f d (a .k) _ _ (b .pre .1 .0 .is) (c .data-size .ensures) (v .1)
 
 pub put-buffers-spec : {M : Type 1} → statement M
 put-buffers-spec =

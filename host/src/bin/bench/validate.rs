@@ -116,17 +116,17 @@ fn node<W: Way, F: Form>(pack: &Pack, i: usize) -> bool {
     }
 }
 
-/// The nulls, which arrow-data holds to the count that came with them.
+/// The nulls, held to the count that came with them, as arrow-data does.
 fn nulls_counted(pack: &Pack, i: usize) -> bool {
     let n = &pack.nodes[i];
     if n.validity == NO_BITMAP {
-        return true;
+        return n.nulls == 0;
     }
     let (words, rest) = pack.body[n.validity as usize..][..n.span().div_ceil(8)].as_chunks::<8>();
     let ones = |sum: u32, bits: u64| sum + bits.count_ones();
     let count = words.iter().map(|word| u64::from_le_bytes(*word)).chain(rest.iter().map(|byte| *byte as u64)).fold(0, ones);
-    // no bit is spare here, and a count that is wrong would be more than there are rows
-    std::hint::black_box(count) <= n.rows
+    // no bit is spare here
+    n.rows - count == n.nulls
 }
 
 /// `count` entries of four bytes.

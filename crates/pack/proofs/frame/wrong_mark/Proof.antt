@@ -6,7 +6,7 @@ use Rattle.pack.proofs.frame.wrong_mark.Tie as tie
 
 returns : tie.Need-returns
 unfolding wrongMark
-returns c = rw (c .before .trailer-of .ensures)
+returns c = rw (c .trailer-of .ensures)
 
 pub wrong-mark-spec : {M : Type 1} → statement M
 wrong-mark-spec = tie.close (tie.spec (λ c κs. search needs) returns)
