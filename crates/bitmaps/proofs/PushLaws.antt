@@ -1,27 +1,30 @@
 -- Pushes one after another: what they leave waiting, what they have written, and the room they need. Assumes nothing.
-use Prim.Native.Nat.{ℕ, _+_, _*_, _/_, _%_, _≤_, _<_}
+use Prim.Native.Nat.{ℕ, _+_, _-_, _*_, _/_, _%_, _^_, _≤_, _<_}
 use mathlib.Core.Path.{_≡_, refl, sym, ap, _∙_}
 use mathlib.Core.Bool.{Bool}
 use mathlib.Core.List.{List, [], _∷_, _++_, append-nil, append-assoc}
 use mathlib.Core.Logic.{dite}
 use native.Mathlib.Decide.{decLt}
 use native.Mathlib.Omega.{arith}
+use lib.Bits.{bitOr}
+use lib.Count.{ones, ones-ones}
+use lib.Dec.{lit<}
 use lib.ListN.{length, length-append, length-drop}
 use Rattle.format.specs.Bytes.{join, table, toLe, bytesFor, packed}
-use Rattle.format.specs.Words.{lowBits, fullWords, spare}
+use Rattle.format.specs.Words.{compress, lowBits, fullWords, spare}
 use Rattle.format.specs.Write.{numbers}
 use Rattle.format.specs.Put.{Wrote}
 use Rattle.format.proofs.Measure.{length-numbers, length-toLe}
-use Rattle.format.proofs.WordLaws.{length-low}
+use Rattle.format.proofs.WordLaws.{compress-all, length-low}
 use Rattle.format.proofs.Put.{then, named, none, same-size}
 use Rattle.format.proofs.PackedLaws.{numbers-one, length-spare, length-words}
 use Rattle.format.proofs.Numbers.{numbers-append}
-use Rattle.bits.specs.Pack.{Packed, waiting, packing}
+use Rattle.bits.specs.Pack.{Packed, waiting, pushed, full, packing}
 use Rattle.bits.specs.declared.Packing.{Packing}
 use Rattle.bits.specs.declared.Pushed.{Pushed}
 use Rattle.bits.specs.declared.Pushed.the-variants.{Word, Nothing}
 use Rattle.bits.specs.declared.Packer.{Packer}
-use Rattle.bits.proofs.PackLaws.{packing-partial, packing-full, partial-words, full-words, packing-packed, flushed}
+use Rattle.bits.proofs.PackLaws.{step-full, packing-partial, packing-full, partial-words, full-words, packing-packed, flushed}
 use Rattle.bitmaps.specs.declared.Bitmap.{Bitmap}
 use Rattle.bitmaps.specs.Push.{wordsOf, handedWords, Packs, Pushes, Adds}
 
@@ -42,6 +45,15 @@ module _ (ts : List Bool) {k : Packing} (e : k ≡ packing ts) where
   -- a full word takes 8 bytes
   pub full-size : {w : ℕ} → k .word ≡ Word w → length (numbers 8 (handedWords (packing ts))) ≡ 8
   full-size {w} q = ap length (handed-is q) ∙ length-numbers 8 (w ∷ [])
+
+-- 64 bits fill a word, whatever waits, and leave as many waiting
+pub full-step : (p : Packer) (value : ℕ) → Packed p → value < 2 ^ 64
+    → full (bitOr (p .current) ((value * 2 ^ p .filled) % 2 ^ 64)) (record { current = value / 2 / 2 ^ (63 - p .filled); filled = p .filled }) ≡ packing (pushed p value (2 ^ 64 - 1))
+full-step p value ok h =
+    let all : compress 64 value (2 ^ 64 - 1) ≡ value = compress-all 64 value (2 ^ 64 - 1) h refl in
+    let many : ones (2 ^ 64 - 1) ≡ 64 = ones-ones 64 in
+    let left : p .filled + ones (2 ^ 64 - 1) - 64 ≡ p .filled = omega arith in
+    rw (all, left) at (step-full p ok value (2 ^ 64 - 1) (lit< tt) (omega arith))
 
 -- ---- pushes one after another
 

@@ -1,6 +1,6 @@
 // Bitmaps of picked rows: filter_bits, by compress or by blocks, and filter_nulls.
 ghost use mathlib.Core.Path.{_≡_};
-ghost use Prim.Native.Nat.{_+_, _-_, _*_, _/_, _^_, _≤_, _<_, min};
+ghost use Prim.Native.Nat.{_+_, _-_, _*_, _/_, _^_, _≤_, _<_};
 ghost use lib.ListN.{length};
 ghost use mathlib.Core.List.{map};
 ghost use Rattle.format.specs.Bytes.{toLe, bytesAt, bytesFor, packed};
@@ -50,30 +50,61 @@ fn push(out: &mut [u8], to: Bitmap, value: u64, mask: u64) -> Bitmap
     }
 }
 
-// The smaller of a number and 64.
-fn up_to_64(n: usize) -> u32
-    ensures { λ r. ⌜ r ≡ min n 64 ⌝ }
+// Adds 64 bits, which fill a word whatever waits, and leave as many waiting: a push under a mask of ones, where there is nothing to compress and nothing to count.
+fn push_full(out: &mut [u8], to: Bitmap, value: u64) -> Bitmap
+    requires { ⌜ Packed (to .packer) ⌝ }
+    requires { ⌜ to .here + 8 ≤ length (now out) ⌝ }
+    ensures { λ r. ⌜ Pushes (pushed (to .packer) value (2 ^ 64 - 1)) (now (out .entry)) to (now (out .exit)) r ⌝ }
 {
-    if n < 64 { n as u32 } else { 64 }
+    let here = to.here;
+    let packer = to.packer;
+    let filled = packer.filled;
+    let next = words::put64(out, here, packer.current | (value << filled));
+    // value >> (64 - filled), written so that filled == 0 shifts everything out
+    let current = (value >> 1) >> (63 - filled);
+    Bitmap {
+        here: next,
+        packer: Packer { current, filled },
+    }
 }
 
-// The bits of rows a to e, up to 64 at a time: n bits are a push under a mask of n ones.
+// The bits of n whole words of rows, from row a on.
+fn push_words(
+    out: &mut [u8],
+    start: Bitmap,
+    values: &[u8],
+    from: usize,
+    a: usize,
+    n: usize,
+) -> Bitmap
+    requires { ⌜ Packed (start .packer) ⌝ }
+    requires { ⌜ from + (a + 64 * n) < 2 ^ 62 ⌝ }
+    requires { ⌜ start .here + 8 * ((start .packer .filled + 64 * n) / 64) ≤ length (now out) ⌝ }
+    ensures { λ r. ⌜ Adds (map (bitFrom (now (values .entry)) from) (countUp (64 * n) a)) (now (out .entry)) start (now (out .exit)) r ⌝ }
+{
+    let mut to = start;
+    let mut w: usize = 0;
+    while w < n {
+        let v = slots::load64(values, from + (a + 64 * w));
+        to = push_full(out, to, v);
+        w += 1;
+    }
+    to
+}
+
+// The bits of rows a to e: whole words, and what is left as a push under a mask of so many ones.
 fn push_run(out: &mut [u8], start: Bitmap, values: &[u8], from: usize, a: usize, e: usize) -> Bitmap
     requires { ⌜ Packed (start .packer) ⌝ }
     requires { ⌜ (a ≤ e) × (from + e < 2 ^ 62) ⌝ }
     requires { ⌜ start .here + 8 * ((start .packer .filled + (e - a)) / 64) ≤ length (now out) ⌝ }
     ensures { λ r. ⌜ Adds (map (bitFrom (now (values .entry)) from) (countUp (e - a) a)) (now (out .entry)) start (now (out .exit)) r ⌝ }
 {
-    let mut to = start;
-    let mut i = a;
-    while i < e {
-        let n = up_to_64(e - i);
-        let v = slots::load64(values, from + i);
-        let ones = bits::low_ones(n);
-        to = push(out, to, v, ones);
-        i += n as usize;
-    }
-    to
+    let n = (e - a) / 64;
+    let to = push_words(out, start, values, from, a, n);
+    let i = a + 64 * n;
+    let v = slots::load64(values, from + i);
+    let ones = bits::low_ones((e - i) as u32);
+    push(out, to, v, ones)
 }
 
 // The bits of the rows base + k for the set bits k of a word.
