@@ -1,4 +1,4 @@
--- Pushes one after another: what they leave waiting, what they have written, and the room they need. Assumes nothing.
+-- Steps, and pushes one after another: what they leave waiting, what they have written, and the room they need. Assumes nothing.
 use Prim.Native.Nat.{ℕ, _+_, _-_, _*_, _/_, _%_, _^_, _≤_, _<_}
 use mathlib.Core.Path.{_≡_, refl, sym, ap, _∙_}
 use mathlib.Core.Bool.{Bool}
@@ -6,54 +6,59 @@ use mathlib.Core.List.{List, [], _∷_, _++_, append-nil, append-assoc}
 use mathlib.Core.Logic.{dite}
 use native.Mathlib.Decide.{decLt}
 use native.Mathlib.Omega.{arith}
-use lib.Bits.{bitOr}
-use lib.Count.{ones, ones-ones}
-use lib.Dec.{lit<}
+use lib.Bits.{bitAnd, and-le-r, and-mask}
 use lib.ListN.{length, length-append, length-drop}
 use Rattle.format.specs.Bytes.{join, table, toLe, bytesFor, packed}
-use Rattle.format.specs.Words.{compress, lowBits, fullWords, spare}
+use Rattle.format.specs.Words.{lowBits, fullWords, spare}
 use Rattle.format.specs.Write.{numbers}
 use Rattle.format.specs.Put.{Wrote}
 use Rattle.format.proofs.Measure.{length-numbers, length-toLe}
-use Rattle.format.proofs.WordLaws.{compress-all, length-low}
+use Rattle.format.proofs.WordLaws.{length-low, low-mod}
 use Rattle.format.proofs.Put.{then, named, none, same-size}
 use Rattle.format.proofs.PackedLaws.{numbers-one, length-spare, length-words}
 use Rattle.format.proofs.Numbers.{numbers-append}
-use Rattle.bits.specs.Pack.{Packed, waiting, pushed, full, packing}
+use Rattle.bits.specs.Pack.{Packed, waiting, packing}
 use Rattle.bits.specs.declared.Packing.{Packing}
 use Rattle.bits.specs.declared.Pushed.{Pushed}
 use Rattle.bits.specs.declared.Pushed.the-variants.{Word, Nothing}
 use Rattle.bits.specs.declared.Packer.{Packer}
-use Rattle.bits.proofs.PackLaws.{step-full, packing-partial, packing-full, partial-words, full-words, packing-packed, flushed}
+use Rattle.bits.proofs.PackLaws.{packing-partial, packing-full, partial-words, full-words, packing-packed, flushed}
 use Rattle.bitmaps.specs.declared.Bitmap.{Bitmap}
 use Rattle.bitmaps.specs.Push.{wordsOf, handedWords, Packs, Pushes, Adds}
 
--- ---- one push: its two answers
+-- ---- one step: its two answers
 
-module _ (ts : List Bool) {k : Packing} (e : k ≡ packing ts) where
-  handed-is : {x : Pushed} → k .word ≡ x → numbers 8 (handedWords (packing ts)) ≡ numbers 8 (wordsOf x)
-  handed-is q = ap (λ (k : Packing). numbers 8 (handedWords k)) (sym e) ∙ ap (λ (x : Pushed). numbers 8 (wordsOf x)) q
+pub step-none : {x : Pushed} {old : List ℕ} {here : ℕ} → x ≡ Nothing → Wrote old here (numbers 8 (wordsOf x)) old here
+unfolding numbers join
+step-none q = none (ap (λ (x : Pushed). numbers 8 (wordsOf x)) q) refl
 
-  pub pushes-partial : {old : List ℕ} {from : Bitmap} → k .word ≡ Nothing → Pushes ts old from old (record { here = from .here; packer = k .packer })
-  unfolding numbers join
-  pushes-partial q = record { wrote = none (handed-is q) refl; leaves = ap (λ (k : Packing). k .packer) e }
+module _ {x : Pushed} {w : ℕ} (q : x ≡ Word w) where
+  handed-is : numbers 8 (wordsOf x) ≡ toLe 8 w
+  handed-is = ap (λ (x : Pushed). numbers 8 (wordsOf x)) q ∙ numbers-one 8 w
 
-  pub pushes-full : {old : List ℕ} {from : Bitmap} {w next : ℕ} {new : List ℕ} → k .word ≡ Word w → Wrote old (from .here) (toLe 8 w) new next
-      → Pushes ts old from new (record { here = next; packer = k .packer })
-  pushes-full {w = w} q h = record { wrote = named h (sym (handed-is q ∙ numbers-one 8 w)); leaves = ap (λ (k : Packing). k .packer) e }
+  pub step-word : {old : List ℕ} {here : ℕ} {new : List ℕ} {next : ℕ} → Wrote old here (toLe 8 w) new next → Wrote old here (numbers 8 (wordsOf x)) new next
+  step-word h = named h (sym handed-is)
 
   -- a full word takes 8 bytes
-  pub full-size : {w : ℕ} → k .word ≡ Word w → length (numbers 8 (handedWords (packing ts))) ≡ 8
-  full-size {w} q = ap length (handed-is q) ∙ length-numbers 8 (w ∷ [])
+  pub step-size : length (numbers 8 (wordsOf x)) ≡ 8
+  step-size = ap length handed-is ∙ length-toLe 8 w
 
--- 64 bits fill a word, whatever waits, and leave as many waiting
-pub full-step : (p : Packer) (value : ℕ) → Packed p → value < 2 ^ 64
-    → full (bitOr (p .current) ((value * 2 ^ p .filled) % 2 ^ 64)) (record { current = value / 2 / 2 ^ (63 - p .filled); filled = p .filled }) ≡ packing (pushed p value (2 ^ 64 - 1))
-full-step p value ok h =
-    let all : compress 64 value (2 ^ 64 - 1) ≡ value = compress-all 64 value (2 ^ 64 - 1) h refl in
-    let many : ones (2 ^ 64 - 1) ≡ 64 = ones-ones 64 in
-    let left : p .filled + ones (2 ^ 64 - 1) - 64 ≡ p .filled = omega arith in
-    rw (all, left) at (step-full p ok value (2 ^ 64 - 1) (lit< tt) (omega arith))
+-- a step that is put is a push
+pub pushes-step : (ts : List Bool) {k : Packing} {old : List ℕ} {from : Bitmap} {new : List ℕ} {to : Bitmap} → k ≡ packing ts
+    → Wrote old (from .here) (numbers 8 (handedWords k)) new (to .here) → to .packer ≡ k .packer → Pushes ts old from new to
+pushes-step ts e h l =
+    record { wrote = named h (ap (λ (k : Packing). numbers 8 (handedWords k)) e); leaves = l ∙ ap (λ (k : Packing). k .packer) e }
+
+-- the low bits of a value, cut out by as many ones
+module _ (value n m : ℕ) (e : m + 1 ≡ 2 ^ n) where
+  cut : bitAnd value m ≡ value % 2 ^ n
+  cut = let l : m ≡ 2 ^ n - 1 = omega arith in ap (bitAnd value) l ∙ and-mask value n
+
+  pub cut-lt : bitAnd value m < 2 ^ n
+  cut-lt = omega (arith, and-le-r value m)
+
+  pub cut-low : lowBits n (bitAnd value m) ≡ lowBits n value
+  cut-low = rw cut (low-mod n value)
 
 -- ---- pushes one after another
 
@@ -93,27 +98,6 @@ module _ {ts : List Bool} {old : List ℕ} {at : ℕ} {mid : List ℕ} {from : B
             waits = rw (step .leaves) waits;
             packed = ok;
           }
-
-  -- there is room for the word that may be full
-  pub push-room : (vs us : List Bool) → vs ≡ spare ts ++ us → length us ≤ 64 → at + bytesFor (length ts + length us) ≤ length old
-      → from .here + length (numbers 8 (handedWords (packing vs))) ≤ length mid
-  unfolding bytesFor
-  push-room vs us e l fit = rw e (go (packing (spare ts ++ us) .word) refl)
-    where
-      here : from .here ≡ at + 8 * (length ts / 64)
-      here = p .wrote .place ∙ ap (at +_) (length-numbers 8 (fullWords ts) ∙ ap (8 *_) (length-words ts))
-
-      size : length mid ≡ length old
-      size = same-size (p .wrote)
-
-      all : length (fullWords (ts ++ us)) ≡ (length ts + length us) / 64
-      all = length-words (ts ++ us) ∙ ap (_/ 64) (length-append ts us)
-
-      go : (x : Pushed) → packing (spare ts ++ us) .word ≡ x → from .here + length (numbers 8 (handedWords (packing (spare ts ++ us)))) ≤ length mid
-      go Nothing t = rw (t, length-numbers) (omega (arith, here, size))
-      go (Word w) t =
-          let more = ap length (full-words ts us w l t .0) ∙ length-append (fullWords ts) (w ∷ []) ∙ ap (_+ 1) (length-words ts) in
-          rw (t, length-numbers) (omega (arith, here, size, all, more))
 
   -- where the bitmap stands, by how many bits were pushed
   pub packs-filled : from .packer .filled ≡ length ts % 64

@@ -1,28 +1,32 @@
 -- A bitmap column word by word: what a turn pushes, and that it fits. Assumes nothing.
-use Prim.Native.Nat.{ℕ, suc, _+_, _-_, _*_, _^_, _≤_, _<_}
+use Prim.Native.Nat.{ℕ, suc, _+_, _-_, _*_, _/_, _≤_, _<_}
 use mathlib.Core.Path.{_≡_, refl, sym, ap, _∙_}
 use mathlib.Core.Bool.{Bool, true, false}
-use mathlib.Core.List.{List, [], _∷_, _++_, map, map-append, append-nil}
+use mathlib.Core.List.{List, [], _∷_, _++_, map, map-append, append-nil, append-assoc}
 use mathlib.Core.Logic.{dite}
 use native.Mathlib.Nat.{zero-add}
 use native.Mathlib.Decide.{decLe}
 use native.Mathlib.Omega.{arith}
 use lib.ListN.{length, getD, take, drop, length-append, length-map, length-take, length-drop}
 use lib.Seq.{take-suc, getD-drop}
-use Rattle.format.specs.Bytes.{bitIn, bytesAt, bytesFor, packed}
+use Rattle.format.specs.Bytes.{bitIn, bytesAt, packed}
 use Rattle.format.specs.Slots.{wordFrom, picksFrom, countUp}
 use Rattle.format.specs.Rows.{setRows}
 use Rattle.format.specs.Words.{lowBits, gather}
-use Rattle.format.proofs.SlotLaws.{picks-cat, picks-none, count-cat, count-le, up-cat, slots-up, length-up}
-use Rattle.format.proofs.WordLaws.{from-shift, from-zero, low-from, gather-map}
+use Rattle.format.proofs.SlotLaws.{picks-cat, picks-none, count-cat, up-cat, slots-up, length-up}
+use Rattle.format.proofs.RowLaws.{set-from, set-none}
+use Rattle.format.proofs.WordLaws.{from-shift, low-from, low-slots, gather-map}
 use Rattle.format.proofs.Measure.{length-packed}
-use Rattle.bits.specs.Pack.{waiting, pushed}
+use Rattle.bits.specs.Pack.{Packed, waiting, pushed}
 use Rattle.bits.specs.declared.Packer.{Packer}
-use Rattle.bits.proofs.PackLaws.{pushed-picks, pushed-slots}
 use Rattle.slots.specs.Source.{slotOf, wordAt}
 use Rattle.slots.specs.declared.Bits.{Bits}
 use Rattle.slots.proofs.Reading.{slots-picks}
-use Rattle.bitmaps.specs.Push.{bitFrom}
+use Rattle.scan.specs.Asked.{Blank}
+use Rattle.words.specs.Run.{LowestRun}
+use Rattle.bitmaps.specs.declared.Bitmap.{Bitmap}
+use Rattle.bitmaps.specs.Push.{Packs, Pushes, Adds, bitFrom}
+use Rattle.bitmaps.proofs.PushLaws.{packs-room, adds-none, adds-then, adds-push, adds-room}
 
 -- the bits of the picked rows of the first n slots
 unfoldable pub taken : List ℕ → ℕ → List ℕ → Bits → ℕ → List Bool
@@ -30,30 +34,23 @@ taken b from s m n = map (bitFrom b from) (picksFrom (slotOf s m) n 0)
 
 module _ (b : List ℕ) (from : ℕ) (s : List ℕ) (m : Bits) where
   -- one word more
-  unfoldable pub fresh : ℕ → List Bool
-  fresh w = map (bitFrom b from) (picksFrom (slotOf s m) 64 (64 * w))
-
-  pub taken-more : (w v : ℕ) → v ≡ w + 1 → taken b from s m (64 * v) ≡ taken b from s m (64 * w) ++ fresh w
-  unfolding taken fresh
-  taken-more w v e =
+  pub taken-more : (w x v : ℕ) → x ≡ wordAt s m w → v ≡ w + 1 → taken b from s m (64 * v) ≡ taken b from s m (64 * w) ++ map (bitFrom b from) (setRows (64 * w) x)
+  unfolding taken
+  taken-more w x v ex e =
       let next : 64 * v ≡ 64 * w + 64 = omega arith in
-      rw (next, picks-cat, zero-add) (map-append (bitFrom b from) (picksFrom (slotOf s m) (64 * w) 0) (picksFrom (slotOf s m) 64 (64 * w)))
-
-  pub fresh-le : (w : ℕ) → length (fresh w) ≤ 64
-  unfolding fresh
-  fresh-le w = rw length-map (count-le (slotOf s m) 64 (64 * w))
-
-  -- a value's word and the mask's word give just these bits
-  pub word-pushed : (p : Packer) (w v x : ℕ) → v ≡ wordFrom (bitIn b) 64 (from + 64 * w) → x ≡ wordAt s m w → pushed p v x ≡ waiting p ++ fresh w
-  unfolding bitFrom fresh
-  word-pushed p w v x ev ex = rw (ev, ex, from-shift) (pushed-picks p (slotOf s m) (bitFrom b from) (64 * w))
+      rw (next, picks-cat, zero-add, ex, set-from) (map-append (bitFrom b from) (picksFrom (slotOf s m) (64 * w) 0) (picksFrom (slotOf s m) 64 (64 * w)))
 
   -- an empty word gives none
-  pub taken-none : (w v x : ℕ) → x ≡ wordAt s m w → x ≡ 0 → v ≡ w + 1 → taken b from s m (64 * v) ≡ taken b from s m (64 * w)
-  unfolding fresh
-  taken-none w v x ex e n =
-      let none : fresh w ≡ [] = rw (picks-none (slotOf s m) 64 (64 * w) (from-zero (slotOf s m) 64 (64 * w) (sym ex ∙ e))) in
-      taken-more w v n ∙ ap (taken b from s m (64 * w) ++_) none ∙ append-nil (taken b from s m (64 * w))
+  pub taken-none : (w x v : ℕ) → x ≡ wordAt s m w → x ≡ 0 → v ≡ w + 1 → taken b from s m (64 * v) ≡ taken b from s m (64 * w)
+  taken-none w x v ex z e = taken-more w x v ex e ∙ rw (set-none (64 * w) x z) (append-nil (taken b from s m (64 * w)))
+
+  -- nor do words that are passed over
+  pub taken-over : {w k : ℕ} → Blank (slotOf s m) w (m .len) k → taken b from s m (64 * k) ≡ taken b from s m (64 * w)
+  unfolding taken
+  taken-over {w} {k} h =
+      let sum : 64 * k ≡ 64 * w + (64 * k - 64 * w) = omega (arith, h .low) in
+      let none = picks-none (slotOf s m) (64 * k - 64 * w) (64 * w) (rw (← sum) (h .all)) in
+      rw (sum, picks-cat, zero-add, none, append-nil)
 
   -- no more are taken than the whole column has, so a turn's word fits
   taken-le : (n : ℕ) → length (taken b from s m n) ≤ length (taken b from s m (m .len))
@@ -66,14 +63,13 @@ module _ (b : List ℕ) (from : ℕ) (s : List ℕ) (m : Bits) where
           let cat = rw sum at (count-cat (slotOf s m) k (m .len - k) 0) in
           omega arith
 
-  pub word-room : (at w size : ℕ) → at + length (packed (taken b from s m (m .len))) ≤ size
-      → at + bytesFor (length (taken b from s m (64 * w)) + length (fresh w)) ≤ size
-  unfolding bytesFor
-  word-room at w size fit =
+  pub word-room : {old : List ℕ} {at : ℕ} {mid : List ℕ} {to : Bitmap} (w x : ℕ) → x ≡ wordAt s m w → Packs (taken b from s m (64 * w)) old at mid to
+      → at + length (packed (taken b from s m (m .len))) ≤ length old → to .here + 8 * ((to .packer .filled + length (setRows (64 * w) x)) / 64) ≤ length mid
+  word-room w x ex p fit =
       let whole = length-packed (taken b from s m (m .len)) in
-      let more = ap length (taken-more w (w + 1) refl) ∙ length-append (taken b from s m (64 * w)) (fresh w) in
-      let most = taken-le (64 * (w + 1)) in
-      omega arith
+      let rows = length-map (setRows (64 * w) x) (bitFrom b from) in
+      let more = ap length (taken-more w x (w + 1) ex refl) ∙ length-append (taken b from s m (64 * w)) (map (bitFrom b from) (setRows (64 * w) x)) in
+      packs-room p _ (length (taken b from s m (m .len))) (omega (arith, taken-le (64 * (w + 1)))) (rw (← whole) fit)
 
   -- past the last slot nothing more is taken
   pub taken-all : (n : ℕ) → m .len ≤ n → taken b from s m n ≡ taken b from s m (m .len)
@@ -83,11 +79,10 @@ module _ (b : List ℕ) (from : ℕ) (s : List ℕ) (m : Bits) where
 -- ---- the bits of rows, whichever way they are told
 
 module _ (b : List ℕ) (from : ℕ) where
-  -- n rows from row i on, under a mask of n ones
-  pub run-pushed : (p : Packer) (i v mask n : ℕ) → v ≡ wordFrom (bitIn b) 64 (from + i) → mask + 1 ≡ 2 ^ n → n ≤ 64
-      → pushed p v mask ≡ waiting p ++ map (bitFrom b from) (countUp n i)
+  -- n rows from row i on
+  pub run-bits : (p : Packer) (i v n : ℕ) → v ≡ wordFrom (bitIn b) 64 (from + i) → n ≤ 64 → waiting p ++ lowBits n v ≡ waiting p ++ map (bitFrom b from) (countUp n i)
   unfolding bitFrom
-  run-pushed p i v mask n e m l = rw (e, from-shift) (pushed-slots p (bitFrom b from) i mask n m l)
+  run-bits p i v n e l = rw (e, from-shift) (ap (waiting p ++_) (low-slots (bitFrom b from) n 64 i l ∙ slots-up (bitFrom b from) n i))
 
   -- the rows of a word's set bits
   pub set-pushed : (p : Packer) (base v x : ℕ) → v ≡ wordFrom (bitIn b) 64 (from + base) → pushed p v x ≡ waiting p ++ map (bitFrom b from) (setRows base x)
@@ -116,6 +111,48 @@ gather-le (false ∷ ms) (x ∷ xs) = omega (arith, gather-le ms xs)
 pub set-size : (base x : ℕ) → length (setRows base x) ≤ 64
 unfolding setRows
 set-size base x = omega (arith, gather-le (lowBits 64 x) (countUp 64 base), length-up 64 base)
+
+-- where a word has one run, its rows are those of the run
+pub one-run : {word from to rest : ℕ} → LowestRun word from to rest → rest ≡ 0 → (base : ℕ) → setRows base word ≡ countUp (to - from) (base + from)
+one-run {rest = rest} r z base = r .rows base ∙ rw (set-none base rest z) (append-nil _)
+
+-- of the bits of a word's rows, those of the set bits of `rest` are still to be added
+pub record Worded (b : List ℕ) (from base word : ℕ) (old : List ℕ) (start : Bitmap) (new : List ℕ) (to : Bitmap) (rest : ℕ) : Type 0 where
+  pub done : List Bool
+  pub adds : Adds done old start new to
+  pub left : map (bitFrom b from) (setRows base word) ≡ done ++ map (bitFrom b from) (setRows base rest)
+
+module _ {b : List ℕ} {from base word : ℕ} {old : List ℕ} {start : Bitmap} where
+  pub word-none : Packed (start .packer) → Worded b from base word old start old start word
+  word-none ok = record { done = []; adds = adds-none ok; left = refl }
+
+  module _ {new : List ℕ} {to : Bitmap} {rest : ℕ} (h : Worded b from base word old start new to rest) where
+    pub word-done : rest ≡ 0 → Adds (map (bitFrom b from) (setRows base word)) old start new to
+    word-done z = rw (h .left, set-none base rest z, append-nil) (h .adds)
+
+    -- its lowest run is added
+    module _ {a e others : ℕ} (run : LowestRun rest a e others) where
+      run-off : map (bitFrom b from) (setRows base rest) ≡ map (bitFrom b from) (countUp (e - a) (base + a)) ++ map (bitFrom b from) (setRows base others)
+      run-off = rw (run .rows base) (map-append (bitFrom b from) (countUp (e - a) (base + a)) (setRows base others))
+
+      pub word-fits : start .here + 8 * ((start .packer .filled + length (setRows base word)) / 64) ≤ length old
+          → to .here + 8 * ((to .packer .filled + (e - a)) / 64) ≤ length new
+      word-fits fit =
+          let all = sym (length-map (setRows base word) (bitFrom b from)) ∙ ap length (h .left) ∙ length-append (h .done) _ in
+          let parts = ap length run-off ∙ length-append (map (bitFrom b from) (countUp (e - a) (base + a))) _ in
+          adds-room (length (setRows base word)) (e - a) (h .adds) (omega (arith, all, parts, run-size b from (e - a) (base + a))) fit
+
+      pub word-more : {v : ℕ} {out : List ℕ} {next : Bitmap} → v ≡ wordFrom (bitIn b) 64 (from + (base + a))
+          → Pushes (waiting (to .packer) ++ lowBits (e - a) v) new to out next → Worded b from base word old start out next others
+      word-more {v} ev p =
+          let n = e - a in
+          let size = run-size b from n (base + a) in
+          let vs = run-bits b from (to .packer) (base + a) v n ev (omega (arith, run .high)) in
+          record {
+            done = h .done ++ map (bitFrom b from) (countUp n (base + a));
+            adds = adds-then (h .adds) (adds-push (h .adds .packed) vs (omega (arith, run .high)) p);
+            left = h .left ∙ rw run-off (sym (append-assoc (h .done) (map (bitFrom b from) (countUp n (base + a))) (map (bitFrom b from) (setRows base others))));
+          }
 
 -- the rows of a list's entries i to k, and one entry more
 pub listed-more : (b : List ℕ) (from : ℕ) (list : List ℕ) (i k : ℕ) → i ≤ k → k < length list

@@ -1,19 +1,21 @@
-// Bitmaps of picked rows: filter_bits, by compress or by blocks, and filter_nulls.
+// Bitmaps of picked rows: filter_bits, by compress or by blocks.
 ghost use mathlib.Core.Path.{_≡_};
 ghost use Prim.Native.Nat.{_+_, _-_, _*_, _/_, _^_, _≤_, _<_};
 ghost use lib.ListN.{length};
-ghost use mathlib.Core.List.{map};
+ghost use mathlib.Core.List.{map, _++_};
 ghost use Rattle.format.specs.Bytes.{toLe, bytesAt, bytesFor, packed};
 ghost use Rattle.format.specs.Slots.{picksFrom, countUp};
 ghost use Rattle.format.specs.Rows.{setRows};
+ghost use Rattle.format.specs.Words.{lowBits};
 ghost use Rattle.format.specs.Put.{Wrote};
 ghost use Rattle.slots.specs.Source.{Lies, slotOf};
 ghost use Rattle.predicate.specs.Selection.{Holds, Readable, Sourced, keptBy};
 ghost use Rattle.format.specs.Mask.{byRoute};
 ghost use Rattle.format.specs.Write.{numbers};
-ghost use Rattle.bits.specs.Pack.{Packed, pushed, packing};
+ghost use Rattle.bits.specs.Pack.{Packed, waiting, pushed, packing};
 ghost use Rattle.bitmaps.specs.Push.{handedWords, Pushes, Adds, bitFrom, storedRows};
 use bits::Packer;
+use bits::Packing;
 use bits::Pushed;
 use predicate::Block;
 use predicate::Cursor;
@@ -27,15 +29,11 @@ pub struct Bitmap {
     pub packer: Packer,
 }
 
-// Adds the bits of value at the set bits of mask; a full word is written.
-fn push(out: &mut [u8], to: Bitmap, value: u64, mask: u64) -> Bitmap
-    requires { ⌜ Packed (to .packer) ⌝ }
-    requires { ⌜ to .here + length (numbers 8 (handedWords (packing (pushed (to .packer) value mask)))) ≤ length (now out) ⌝ }
-    ensures { λ r. ⌜ Pushes (pushed (to .packer) value mask) (now (out .entry)) to (now (out .exit)) r ⌝ }
+// The bitmap after a step: a word that is handed back is written.
+fn put_step(out: &mut [u8], here: usize, step: Packing) -> Bitmap
+    requires { ⌜ here + length (numbers 8 (handedWords step)) ≤ length (now out) ⌝ }
+    ensures { λ r. ⌜ Wrote (now (out .entry)) here (numbers 8 (handedWords step)) (now (out .exit)) (r .here) × (r .packer ≡ step .packer) ⌝ }
 {
-    let here = to.here;
-    let packer = to.packer;
-    let step = bits::pack_word(packer, value, mask);
     let left = step.packer;
     let word = step.word;
     match word {
@@ -50,22 +48,25 @@ fn push(out: &mut [u8], to: Bitmap, value: u64, mask: u64) -> Bitmap
     }
 }
 
-// Adds 64 bits, which fill a word whatever waits, and leave as many waiting: a push under a mask of ones, where there is nothing to compress and nothing to count.
-fn push_full(out: &mut [u8], to: Bitmap, value: u64) -> Bitmap
+// Adds the bits of value at the set bits of mask; a full word is written.
+fn push(out: &mut [u8], to: Bitmap, value: u64, mask: u64) -> Bitmap
     requires { ⌜ Packed (to .packer) ⌝ }
-    requires { ⌜ to .here + 8 ≤ length (now out) ⌝ }
-    ensures { λ r. ⌜ Pushes (pushed (to .packer) value (2 ^ 64 - 1)) (now (out .entry)) to (now (out .exit)) r ⌝ }
+    requires { ⌜ to .here + length (numbers 8 (handedWords (packing (pushed (to .packer) value mask)))) ≤ length (now out) ⌝ }
+    ensures { λ r. ⌜ Pushes (pushed (to .packer) value mask) (now (out .entry)) to (now (out .exit)) r ⌝ }
 {
-    let here = to.here;
-    let packer = to.packer;
-    let filled = packer.filled;
-    let next = words::put64(out, here, packer.current | (value << filled));
-    // value >> (64 - filled), written so that filled == 0 shifts everything out
-    let current = (value >> 1) >> (63 - filled);
-    Bitmap {
-        here: next,
-        packer: Packer { current, filled },
-    }
+    let step = bits::pack_word(to.packer, value, mask);
+    put_step(out, to.here, step)
+}
+
+// Adds the n lowest bits of value: bits that stand together need no compress, and their number no count.
+fn push_low(out: &mut [u8], to: Bitmap, value: u64, n: u32) -> Bitmap
+    requires { ⌜ Packed (to .packer) ⌝ }
+    requires { ⌜ (n ≤ 64) × (to .here + 8 * ((to .packer .filled + n) / 64) ≤ length (now out)) ⌝ }
+    ensures { λ r. ⌜ Pushes (waiting (to .packer) ++ lowBits n value) (now (out .entry)) to (now (out .exit)) r ⌝ }
+{
+    let low = value & bits::low_ones(n);
+    let step = bits::pack_bits(to.packer, low, n);
+    put_step(out, to.here, step)
 }
 
 // The bits of n whole words of rows, from row a on.
@@ -86,13 +87,13 @@ fn push_words(
     let mut w: usize = 0;
     while w < n {
         let v = slots::load64(values, from + (a + 64 * w));
-        to = push_full(out, to, v);
+        to = push_low(out, to, v, 64);
         w += 1;
     }
     to
 }
 
-// The bits of rows a to e: whole words, and what is left as a push under a mask of so many ones.
+// The bits of rows a to e: whole words, and what is left.
 fn push_run(out: &mut [u8], start: Bitmap, values: &[u8], from: usize, a: usize, e: usize) -> Bitmap
     requires { ⌜ Packed (start .packer) ⌝ }
     requires { ⌜ (a ≤ e) × (from + e < 2 ^ 62) ⌝ }
@@ -103,26 +104,32 @@ fn push_run(out: &mut [u8], start: Bitmap, values: &[u8], from: usize, a: usize,
     let to = push_words(out, start, values, from, a, n);
     let i = a + 64 * n;
     let v = slots::load64(values, from + i);
-    let ones = bits::low_ones((e - i) as u32);
-    push(out, to, v, ones)
+    push_low(out, to, v, (e - i) as u32)
 }
 
-// The bits of the rows base + k for the set bits k of a word.
+// The bits of the rows base + k for the set bits k of a word: run by run.
 fn push_word(
     out: &mut [u8],
-    to: Bitmap,
+    start: Bitmap,
     values: &[u8],
     from: usize,
     base: usize,
     word: u64,
 ) -> Bitmap
-    requires { ⌜ Packed (to .packer) ⌝ }
+    requires { ⌜ Packed (start .packer) ⌝ }
     requires { ⌜ from + base < 2 ^ 62 ⌝ }
-    requires { ⌜ to .here + 8 * ((to .packer .filled + length (setRows base word)) / 64) ≤ length (now out) ⌝ }
-    ensures { λ r. ⌜ Adds (map (bitFrom (now (values .entry)) from) (setRows base word)) (now (out .entry)) to (now (out .exit)) r ⌝ }
+    requires { ⌜ start .here + 8 * ((start .packer .filled + length (setRows base word)) / 64) ≤ length (now out) ⌝ }
+    ensures { λ r. ⌜ Adds (map (bitFrom (now (values .entry)) from) (setRows base word)) (now (out .entry)) start (now (out .exit)) r ⌝ }
 {
-    let v = slots::load64(values, from + base);
-    push(out, to, v, word)
+    let mut to = start;
+    let mut rest = word;
+    while rest != 0 {
+        let run = words::low_run(rest);
+        let v = slots::load64(values, from + (base + run.from));
+        to = push_low(out, to, v, (run.to - run.from) as u32);
+        rest = run.rest;
+    }
+    to
 }
 
 // The bits of the rows that entries i to j of the list name.
@@ -145,7 +152,7 @@ fn push_rows(
     while k < j {
         let row = list[k] as usize;
         let v = slots::load64(values, from + row);
-        to = push(out, to, v, 1);
+        to = push_low(out, to, v, 1);
         k += 1;
     }
     to
@@ -159,6 +166,30 @@ fn flush(out: &mut [u8], to: Bitmap) -> usize
     let packer = to.packer;
     let width = (packer.filled as usize + 7) / 8;
     append::fields::put_number(out, to.here, packer.current, width)
+}
+
+// The same of a word that is not empty, by compress; but where its set bits stand together, as they mostly do where rows are picked in runs, there is
+// nothing to compress. It has one caller, so it is compiled into that loop: as a call for each word it took 3 to 8 % more of a column of bits.
+fn push_picked(
+    out: &mut [u8],
+    to: Bitmap,
+    values: &[u8],
+    from: usize,
+    base: usize,
+    word: u64,
+) -> Bitmap
+    requires { ⌜ Packed (to .packer) ⌝ }
+    requires { ⌜ (0 < word) × (from + base < 2 ^ 62) ⌝ }
+    requires { ⌜ to .here + 8 * ((to .packer .filled + length (setRows base word)) / 64) ≤ length (now out) ⌝ }
+    ensures { λ r. ⌜ Adds (map (bitFrom (now (values .entry)) from) (setRows base word)) (now (out .entry)) to (now (out .exit)) r ⌝ }
+{
+    let run = words::low_run(word);
+    if run.rest == 0 {
+        let near = slots::load64(values, from + (base + run.from));
+        return push_low(out, to, near, (run.to - run.from) as u32);
+    }
+    let v = slots::load64(values, from + base);
+    push(out, to, v, word)
 }
 
 // The bits of the picked rows, row 0 at bit `from` of the values: word by word, the mask's word compresses the values'.
@@ -190,12 +221,12 @@ pub fn filter_bits_compress(
         } else {
             slots::word(s, mask, w)
         };
-        let first = from + 64 * w;
+        let base = 64 * w;
         w += 1;
-        // Where few rows are picked most words are empty: they cost this test alone.
         if x != 0 {
-            let v = slots::load64(values, first);
-            to = push(out, to, v, x);
+            to = push_picked(out, to, values, from, base, x);
+        } else if w % scan::SPACING == 0 {
+            w = scan::blank_end(s, mask, w);
         }
     }
     flush(out, to)

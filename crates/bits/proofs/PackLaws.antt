@@ -2,7 +2,7 @@
 -- 127 bits. Assumes nothing.
 use Prim.Native.Nat.{ℕ, _+_, _-_, _*_, _/_, _%_, _^_, _≤_, _<_}
 use mathlib.Core.Bool.{Bool}
-use mathlib.Core.List.{List, [], _∷_, _++_, map, append-nil}
+use mathlib.Core.List.{List, [], _∷_, _++_, append-nil}
 use mathlib.Core.Logic.{_⊎_, inl, inr, ⊎-elim}
 use mathlib.Core.Path.{_≡_, sym, ap, _∙_}
 use native.Mathlib.Nat.{eq-zero-or-pos}
@@ -13,11 +13,9 @@ use lib.Count.{ones}
 use lib.ListN.{length, take, drop, length-append, length-drop, take-append-drop}
 use lib.Seq.{length-take-le}
 use Rattle.format.specs.Bytes.{packed, bytesFor, toLe}
-use Rattle.format.specs.Words.{lowBits, wordOf, compress, fullWords, spare}
-use Rattle.format.specs.Slots.{wordFrom, picksFrom, countUp}
+use Rattle.format.specs.Words.{lowBits, wordOf, gather, compress, fullWords, spare}
 use Rattle.format.specs.Write.{numbers}
-use Rattle.format.proofs.SlotLaws.{slots-up}
-use Rattle.format.proofs.WordLaws.{length-low, take-low, low-word, word-low, word-lt, word-mod, word-append, word-take, word-drop, or-shl, shifted-out, length-gather, gather-ones, gather-both, low-slots}
+use Rattle.format.proofs.WordLaws.{length-low, low-word, word-low, word-lt, word-mod, word-append, word-take, word-drop, or-shl, shifted-out, length-gather}
 use Rattle.format.proofs.PackedLaws.{words-more, spare-more, words-none, words-one, words-append, spare-append, spare-all, length-spare, packed-word, packed-words}
 use Rattle.bits.specs.Pack.{Packed, waiting, pushed, packerOf, partial, full, packing, handed}
 use Rattle.bits.specs.declared.Packer.{Packer}
@@ -52,50 +50,50 @@ packing-packed ts l =
     (λ (h : 64 ≤ length ts). rw (packing-full ts h) (record { room = simp length-drop (omega arith); clear = word-lt (drop 64 ts) }))
     (fills (length ts))
 
--- the step
-module _ (p : Packer) (ok : Packed p) (value mask : ℕ) (fits : mask < 2 ^ 64) where
-  pub length-pushed : length (pushed p value mask) ≡ p .filled + ones mask
-  length-pushed = simp (length-append, length-low, length-gather 64 mask (lowBits 64 value) fits (length-low 64 value))
+-- the step: n bits come behind those that wait
+module _ (p : Packer) (ok : Packed p) (bits n : ℕ) (fits : bits < 2 ^ n) where
+  length-behind : length (waiting p ++ lowBits n bits) ≡ p .filled + n
+  length-behind = simp (length-append, length-low)
 
-  word-pushed : wordOf (pushed p value mask) ≡ compress 64 value mask * 2 ^ p .filled + p .current
-  unfolding compress
-  word-pushed = rw (word-append, length-low, word-low (p .filled) (p .current) (ok .clear))
+  word-behind : wordOf (waiting p ++ lowBits n bits) ≡ bits * 2 ^ p .filled + p .current
+  word-behind = rw (word-append, length-low, word-low (p .filled) (p .current) (ok .clear), word-low n bits fits)
 
-  word : bitOr (p .current) ((compress 64 value mask * 2 ^ p .filled) % 2 ^ 64) ≡ wordOf (pushed p value mask) % 2 ^ 64
-  word = rw word-pushed (or-shl 64 (p .filled) (compress 64 value mask) (p .current) (omega (arith, ok .room)) (ok .clear))
+  word : bitOr (p .current) ((bits * 2 ^ p .filled) % 2 ^ 64) ≡ wordOf (waiting p ++ lowBits n bits) % 2 ^ 64
+  word = rw word-behind (or-shl 64 (p .filled) bits (p .current) (omega (arith, ok .room)) (ok .clear))
 
-  overflow : compress 64 value mask / 2 / 2 ^ (63 - p .filled) ≡ wordOf (pushed p value mask) / 2 ^ 64
+  overflow : bits / 2 / 2 ^ (63 - p .filled) ≡ wordOf (waiting p ++ lowBits n bits) / 2 ^ 64
   overflow =
       let width : 64 ≡ p .filled + (1 + (63 - p .filled)) = omega (arith, ok .room) in
       sym
-      (ap (λ (w : ℕ). wordOf (pushed p value mask) / 2 ^ w) width
-      ∙ rw word-pushed (shifted-out (p .filled) (63 - p .filled) (compress 64 value mask) (p .current) (ok .clear)))
+      (ap (λ (w : ℕ). wordOf (waiting p ++ lowBits n bits) / 2 ^ w) width
+      ∙ rw word-behind (shifted-out (p .filled) (63 - p .filled) bits (p .current) (ok .clear)))
 
-  pub step-partial : p .filled + ones mask < 64
-      → partial (record { current = bitOr (p .current) ((compress 64 value mask * 2 ^ p .filled) % 2 ^ 64); filled = p .filled + ones mask })
-      ≡ packing (pushed p value mask)
+  pub step-partial : p .filled + n < 64
+      → partial (record { current = bitOr (p .current) ((bits * 2 ^ p .filled) % 2 ^ 64); filled = p .filled + n })
+      ≡ packing (waiting p ++ lowBits n bits)
   step-partial h =
-      let short : length (pushed p value mask) < 64 = omega (arith, length-pushed) in
-      rw (packing-partial _ short, word, word-mod 64 (pushed p value mask) (omega arith), length-pushed)
+      let short : length (waiting p ++ lowBits n bits) < 64 = omega (arith, length-behind) in
+      rw (packing-partial _ short, word, word-mod 64 (waiting p ++ lowBits n bits) (omega arith), length-behind)
 
-  pub step-full : 64 ≤ p .filled + ones mask
-      → full (bitOr (p .current) ((compress 64 value mask * 2 ^ p .filled) % 2 ^ 64))
-      (record { current = compress 64 value mask / 2 / 2 ^ (63 - p .filled); filled = p .filled + ones mask - 64 })
-      ≡ packing (pushed p value mask)
+  pub step-full : 64 ≤ p .filled + n
+      → full (bitOr (p .current) ((bits * 2 ^ p .filled) % 2 ^ 64)) (record { current = bits / 2 / 2 ^ (63 - p .filled); filled = p .filled + n - 64 })
+      ≡ packing (waiting p ++ lowBits n bits)
   step-full h =
-      let long : 64 ≤ length (pushed p value mask) = omega (arith, length-pushed) in
-      rw (packing-full _ long, word, overflow, word-take 64 (pushed p value mask), word-drop 64 (pushed p value mask), length-drop, length-pushed)
+      let long : 64 ≤ length (waiting p ++ lowBits n bits) = omega (arith, length-behind) in
+      rw (packing-full _ long, word, overflow, word-take 64 (waiting p ++ lowBits n bits), word-drop 64 (waiting p ++ lowBits n bits), length-drop, length-behind)
 
--- what is pushed of the words of two tests: the answers of q at the slots that m picks
-pub pushed-picks : (p : Packer) (m q : ℕ → Bool) (i : ℕ) → pushed p (wordFrom q 64 i) (wordFrom m 64 i) ≡ waiting p ++ map q (picksFrom m 64 i)
-pushed-picks p m q i = ap (waiting p ++_) (gather-both m q 64 i)
+-- what compress gathers is pushed: as many bits as the mask has ones
+module _ (p : Packer) (value mask : ℕ) (fits : mask < 2 ^ 64) where
+  picked : length (gather (lowBits 64 mask) (lowBits 64 value)) ≡ ones mask
+  picked = length-gather 64 mask (lowBits 64 value) fits (length-low 64 value)
 
--- a run of n bits is a push under a mask of n ones
-pub pushed-run : (p : Packer) (value mask n : ℕ) → mask + 1 ≡ 2 ^ n → n ≤ 64 → pushed p value mask ≡ waiting p ++ lowBits n value
-pushed-run p value mask n e l = rw (gather-ones 64 n mask (lowBits 64 value) e l, take-low n 64 value l)
+  pub picked-lt : compress 64 value mask < 2 ^ ones mask
+  unfolding compress
+  picked-lt = rw (← picked) (word-lt (gather (lowBits 64 mask) (lowBits 64 value)))
 
-pub pushed-slots : (p : Packer) (q : ℕ → Bool) (i mask n : ℕ) → mask + 1 ≡ 2 ^ n → n ≤ 64 → pushed p (wordFrom q 64 i) mask ≡ waiting p ++ map q (countUp n i)
-pushed-slots p q i mask n e l = pushed-run p (wordFrom q 64 i) mask n e l ∙ ap (waiting p ++_) (low-slots q n 64 i l ∙ slots-up q n i)
+  pub pushed-bits : waiting p ++ lowBits (ones mask) (compress 64 value mask) ≡ pushed p value mask
+  unfolding compress
+  pushed-bits = rw (← picked, low-word)
 
 -- ---- bits packed one after another: the full words of all bits so far were handed out, and their spare bits wait
 

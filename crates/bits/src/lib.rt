@@ -1,9 +1,10 @@
 // Bits of 64-bit words: compress, and the packer that puts the bits picked of one word after another into full words.
 ghost use mathlib.Core.Path.{_≡_};
-ghost use Prim.Native.Nat.{_+_, _^_, _≤_};
-ghost use Rattle.format.specs.Words.{compress};
+ghost use Prim.Native.Nat.{_+_, _^_, _≤_, _<_};
+ghost use mathlib.Core.List.{_++_};
+ghost use Rattle.format.specs.Words.{compress, lowBits};
 ghost use Rattle.bits.specs.Lanes.{lanesOf, joined};
-ghost use Rattle.bits.specs.Pack.{Packed, pushed, packing};
+ghost use Rattle.bits.specs.Pack.{Packed, waiting, pushed, packing};
 
 // A mask with every bit of a word set.
 const ALL: u64 = 0xFFFF_FFFF_FFFF_FFFF;
@@ -57,9 +58,6 @@ fn join_bytes(lanes: Lanes) -> u64
 pub fn compress(value: u64, mask: u64) -> u64
     ensures { λ r. ⌜ r ≡ compress 64 value mask ⌝ }
 {
-    if mask == ALL {
-        return value;
-    }
     if u64::count_ones(mask) >= FEW {
         return join_bytes(gather_bytes(value, mask));
     }
@@ -104,15 +102,15 @@ pub struct Packing {
     pub word: Pushed,
 }
 
-// Adds the bits of value at the set bits of mask behind those that wait.
-pub fn packing_step(packer: Packer, value: u64, mask: u64) -> Packing
+// Adds n bits behind those that wait.
+pub fn pack_bits(packer: Packer, bits: u64, n: u32) -> Packing
     requires { ⌜ Packed packer ⌝ }
-    ensures { λ r. ⌜ r ≡ packing (pushed packer value mask) ⌝ }
+    requires { ⌜ (n ≤ 64) × (bits < 2 ^ n) ⌝ }
+    ensures { λ r. ⌜ r ≡ packing (waiting packer ++ lowBits n bits) ⌝ }
 {
-    let bits = compress(value, mask);
     let filled = packer.filled;
     let current = packer.current | (bits << filled);
-    let total = filled + u64::count_ones(mask);
+    let total = filled + n;
     if total < 64 {
         Packing {
             packer: Packer {
@@ -131,6 +129,15 @@ pub fn packing_step(packer: Packer, value: u64, mask: u64) -> Packing
             word: Pushed::Word(current),
         }
     }
+}
+
+// Adds the bits of value at the set bits of mask behind those that wait.
+pub fn packing_step(packer: Packer, value: u64, mask: u64) -> Packing
+    requires { ⌜ Packed packer ⌝ }
+    ensures { λ r. ⌜ r ≡ packing (pushed packer value mask) ⌝ }
+{
+    let bits = compress(value, mask);
+    pack_bits(packer, bits, u64::count_ones(mask))
 }
 
 impl Packer {

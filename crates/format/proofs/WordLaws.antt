@@ -16,9 +16,9 @@ use lib.ListN.{length, getD, take, drop}
 use lib.Pow.{pow-pos, pow-mono, pow-add, shr-shr, shl-shr, shl-exact, high, low, mod-pow-add, split}
 use lib.Seq.{take-all, take-at}
 use Rattle.format.specs.Bytes.{one, sumBelow, le, bitIn}
-use Rattle.format.specs.Words.{odd, lowBits, wordOf, gather, compress}
+use Rattle.format.specs.Words.{odd, lowBits, wordOf, gather}
 use Rattle.format.specs.Slots.{slotsFrom, wordFrom, upTo, after, pick, picksFrom, countUp, All}
-use Rattle.format.proofs.SlotLaws.{all-none, all-one, all-join, upTo-is, upTo-past, after-is, after-not, length-slots, slots-cat, slots-ext, slots-shift, take-slots, slots-up, length-up}
+use Rattle.format.proofs.SlotLaws.{all-none, all-one, all-join, upTo-is, upTo-past, after-is, after-not, length-slots, slots-cat, slots-ext, slots-shift, take-slots, length-up}
 
 -- ---- one bit, and a half
 
@@ -222,15 +222,6 @@ pub gather-short : (n k v m : ℕ) → m < 2 ^ n → gather (lowBits (n + k) m) 
 gather-short n k v m h =
     simp low-add (rw (gather-append (lowBits n m) _ (lowBits n v) _ (simp length-low), div-eq-of-lt h, gather-none, append-nil))
 
--- compress under no bit, and under every bit
-pub compress-none : (w v : ℕ) → compress w v 0 ≡ 0
-unfolding compress wordOf
-compress-none w v = rw (gather-none w (lowBits w v))
-
-pub compress-all : (w v m : ℕ) → v < 2 ^ w → m + 1 ≡ 2 ^ w → compress w v m ≡ v
-unfolding compress
-compress-all w v m h e = ap wordOf (gather-all w m (lowBits w v) e (length-low w v)) ∙ word-low w v h
-
 -- ---- the lowest set bit
 
 -- what `std::num::wrapping_sub_u64(m, 1)` ensures of its result r, at an m that is not 0
@@ -351,9 +342,6 @@ gather-slots p (suc n) i = go (p i) (gather-slots p n (suc i))
 
 pub gather-from : (p : ℕ → Bool) (n i : ℕ) → gather (lowBits n (wordFrom p n i)) (countUp n i) ≡ picksFrom p n i
 gather-from p n i = rw low-from (gather-slots p n i)
-
-pub gather-both : (p q : ℕ → Bool) (n i : ℕ) → gather (lowBits n (wordFrom p n i)) (lowBits n (wordFrom q n i)) ≡ map q (picksFrom p n i)
-gather-both p q n i = rw (low-from q, slots-up q, gather-map, gather-from)
 
 -- so the set bits are as many as the picks
 pub from-ones : (p : ℕ → Bool) (n i : ℕ) → ones (wordFrom p n i) ≡ length (picksFrom p n i)

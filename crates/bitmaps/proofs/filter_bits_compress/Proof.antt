@@ -13,8 +13,8 @@ use Rattle.format.proofs.Put.{same-size}
 use Rattle.bits.specs.Pack.{pushed}
 use Rattle.slots.specs.Source.{wordAt}
 use Rattle.bitmaps.specs.Push.{Packs}
-use Rattle.bitmaps.proofs.PushLaws.{packs-none, packs-more, push-room, packs-done, flush-room}
-use Rattle.bitmaps.proofs.WordWalk.{taken, fresh, taken-more, taken-none, fresh-le, word-pushed, word-room, taken-all}
+use Rattle.bitmaps.proofs.PushLaws.{packs-none, packs-done, flush-room}
+use Rattle.bitmaps.proofs.WordWalk.{taken, taken-more, taken-none, taken-over, word-room, taken-all}
 use Rattle.bitmaps.proofs.filter_bits_compress.Statement.{statement}
 use Rattle.bitmaps.proofs.filter_bits_compress.Tie as tie
 
@@ -34,43 +34,37 @@ is-word : (c : tie.Joined1 Inv-loop μ-loop) →
     c .if1 .x ≡ wordAt (a .s .now) (a .mask) (c .before .before .loop .w)
 is-word c = ⊎-elim (λ v. v .2 ∙ v .1 .ensures) (λ v. v .2 ∙ v .1 .ensures) (c .if1 .came)
 
--- what this turn pushes
-adds : (c : tie.After-load64 Inv-loop μ-loop) →
-    let a = c .before .before .before .before .before .before .before .before .args in
-    let l = c .before .before .before .before .loop in
-    pushed (l .to .packer) (c .load64 .result) (c .before .before .if1 .x) ≡ spare (taken (a .values .now) (a .from) (a .s .now) (a .mask) (64 * l .w)) ++ fresh (a .values .now) (a .from) (a .s .now) (a .mask) (l .w)
-adds c =
-    let a = c .before .before .before .before .before .before .before .before .args in
-    let l = c .before .before .before .before .loop in
-    rw (← l .inv .1 .waits) (word-pushed (a .values .now) (a .from) (a .s .now) (a .mask) (l .to .packer) (l .w) _ _ (c .load64 .ensures) (is-word (c .before .before)))
-
-push-requires : tie.Need-push-requires Inv-loop μ-loop
+push-picked-requires : tie.Need-push-picked-requires Inv-loop μ-loop
 unfolding taken
-push-requires c κs =
-    let a = c .before .before .before .before .before .before .before .before .before .args in
-    let pre = c .before .before .before .before .before .before .before .before .before .pre in
-    let l = c .before .before .before .before .before .loop in (
-      l .inv .1 .packed,
-      push-room (l .inv .1) _ (fresh (a .values .now) (a .from) (a .s .now) (a .mask) (l .w)) (adds (c .before)) (fresh-le (a .values .now) (a .from) (a .s .now) (a .mask) (l .w))
-          (word-room (a .values .now) (a .from) (a .s .now) (a .mask) (a .at) (l .w) _ (pre .1 .1)),
-    )
+push-picked-requires c κs =
+    let b = c .before .before .before .before .before .before .before .before in
+    let a = b .args in
+    let l = c .before .before .before .before .loop in
+    let room = word-room (a .values .now) (a .from) (a .s .now) (a .mask) (l .w) _ (is-word (c .before .before)) (l .inv .1) (b .pre .1 .1) in
+    (l .inv .1 .packed, ((omega arith, omega arith), room))
 
 loop-again : tie.Need-loop-again Inv-loop μ-loop
 loop-again c =
-    let a = c .before .before .before .before .before .before .before .before .before .before .before .before .args in
-    let l = c .before .before .before .before .before .before .before .before .loop in
-    let m = fresh (a .values .now) (a .from) (a .s .now) (a .mask) (l .w) in (
-      omega arith,
-      rw (taken-more (a .values .now) (a .from) (a .s .now) (a .mask) (l .w) (l .w + 1) refl)
-          (packs-more (l .inv .1) m (adds (c .before .before .before .before)) (fresh-le (a .values .now) (a .from) (a .s .now) (a .mask) (l .w)) (c .before .before .push .ensures)),
-    )
+    let a = c .before .before .before .before .before .before .before .before .before .before .before .args in
+    let l = c .before .before .before .before .before .before .before .loop in
+    let word = is-word (c .before .before .before .before .before) in
+    (omega arith, rw (taken-more (a .values .now) (a .from) (a .s .now) (a .mask) (l .w) _ (l .w + 1) word refl) (c .before .before .push-picked .ensures .more (l .inv .1)))
 
 -- an empty word adds nothing
-loop-again-2 : tie.Need-loop-again-2 Inv-loop μ-loop
-loop-again-2 c =
+empty : (c : tie.Else2 Inv-loop μ-loop) →
     let a = c .before .before .before .before .before .before .before .args in
     let l = c .before .before .before .loop in
-    (omega arith, rw (taken-none (a .values .now) (a .from) (a .s .now) (a .mask) (l .w) (l .w + 1) _ (is-word (c .before)) (c .if2 .left) refl) (l .inv .1))
+    Packs (taken (a .values .now) (a .from) (a .s .now) (a .mask) (64 * (l .w + 1))) (a .out .now) (a .at) (l .out) (l .to)
+empty c =
+    let a = c .before .before .before .before .before .before .before .args in
+    let l = c .before .before .before .loop in
+    rw (taken-none (a .values .now) (a .from) (a .s .now) (a .mask) (l .w) _ (l .w + 1) (is-word (c .before)) (c .if2 .left) refl) (l .inv .1)
+
+-- nor do those passed over after it
+loop-again-2 : tie.Need-loop-again-2 Inv-loop μ-loop
+loop-again-2 c =
+    let a = c .before .before .before .before .before .before .before .before .before .args in
+    (omega (arith, c .blank-end .ensures .high), rw (taken-over (a .values .now) (a .from) (a .s .now) (a .mask) (c .blank-end .ensures)) (empty (c .before .before)))
 
 -- the last word is passed: all bits are packed
 packs-all : (c : tie.After-loop Inv-loop μ-loop) →
@@ -104,13 +98,14 @@ filter-bits-compress-spec =
     (λ c κs. search needs)
     (λ c. omega arith)
     (λ c. omega arith)
-    (λ c. omega arith)
-    (λ c κs. search needs)
-    push-requires
+    push-picked-requires
     (λ c. omega arith)
     loop-again
-    (λ c. omega arith)
+    (λ c κs. (c .before .before .before .before .before .before .before .before .pre .0, omega arith))
+    (λ c. omega (arith, c .blank-end .ensures .low))
     loop-again-2
+    (λ c. omega arith)
+    (λ c. (omega arith, empty (c .before)))
     flush-requires
     (λ c. same-size (returns c))
     returns)

@@ -9,8 +9,8 @@ use lib.ListN.{length, getD, take}
 use Rattle.format.specs.Bytes.{bytesAt}
 use Rattle.format.specs.Slots.{countUp}
 use Rattle.bitmaps.specs.Push.{Adds, bitFrom}
-use Rattle.bitmaps.proofs.PushLaws.{adds-none, adds-then, adds-push, adds-room, push-fits}
-use Rattle.bitmaps.proofs.WordWalk.{run-pushed, run-size, listed-more, listed-size}
+use Rattle.bitmaps.proofs.PushLaws.{adds-none, adds-then, adds-push, adds-room}
+use Rattle.bitmaps.proofs.WordWalk.{run-bits, run-size, listed-more, listed-size}
 use Rattle.bitmaps.proofs.push_rows.Statement.{statement}
 use Rattle.bitmaps.proofs.push_rows.Tie as tie
 
@@ -24,19 +24,13 @@ loop-holds : tie.Need-loop-holds Inv-loop μ-loop
 unfolding bytesAt
 loop-holds c = (omega arith, omega arith, rw (sub-self (c .before .before .before .args .i)) (adds-none (c .before .before .before .pre .0)))
 
-push-requires : tie.Need-push-requires Inv-loop μ-loop
-push-requires c κs =
+push-low-requires : tie.Need-push-low-requires Inv-loop μ-loop
+push-low-requires c κs =
     let b = c .before .before .before .before .before .before .before .before in
     let a = b .args in
     let l = c .before .before .before .before .loop in
-    let row = getD (a .list .now) (l .k) 0 in
-    let vs = run-pushed (a .values .now) (a .from) (l .to .packer) row _ 1 1 (c .before .load64 .ensures) refl (omega arith) in
     let done = listed-size (a .values .now) (a .from) (a .list .now) (a .i) (l .k - a .i) (omega arith) in
-    let size = run-size (a .values .now) (a .from) 1 row in (
-      l .inv .2 .packed,
-      push-fits (l .to) _ _ (map (bitFrom (a .values .now) (a .from)) (countUp 1 row)) (l .inv .2 .packed) vs (omega arith)
-          (rw size (adds-room (a .j - a .i) 1 (l .inv .2) (omega arith) (b .pre .1 .1))),
-    )
+    (l .inv .2 .packed, (omega arith, adds-room (a .j - a .i) 1 (l .inv .2) (omega arith) (b .pre .1 .1)))
 
 loop-again : tie.Need-loop-again Inv-loop μ-loop
 loop-again c =
@@ -44,12 +38,12 @@ loop-again c =
     let a = b .args in
     let l = c .before .before .before .before .before .before .before .loop in
     let row = getD (a .list .now) (l .k) 0 in
-    let vs = run-pushed (a .values .now) (a .from) (l .to .packer) row _ 1 1 (c .before .before .before .before .load64 .ensures) refl (omega arith) in
+    let vs = run-bits (a .values .now) (a .from) (l .to .packer) row _ 1 (c .before .before .before .before .load64 .ensures) (omega arith) in
     let size = run-size (a .values .now) (a .from) 1 row in (
       omega arith,
       omega arith,
       rw (listed-more (a .values .now) (a .from) (a .list .now) (a .i) (l .k) (l .inv .0) (omega arith))
-          (adds-then (l .inv .2) (adds-push (l .inv .2 .packed) vs (omega arith) (c .before .before .push .ensures))),
+          (adds-then (l .inv .2) (adds-push (l .inv .2 .packed) vs (omega arith) (c .before .before .push-low .ensures))),
     )
 
 returns : tie.Need-returns Inv-loop μ-loop
@@ -70,7 +64,7 @@ push-rows-spec =
     (λ c. omega (arith, c .shared-slice-known3 .given (c .before .before .loop .k)))
     (λ c. omega (arith, c .shared-slice-known3 .given (c .before .before .loop .k)))
     (λ c κs. search needs)
-    push-requires
+    push-low-requires
     (λ c. omega arith)
     (λ c. omega arith)
     loop-again

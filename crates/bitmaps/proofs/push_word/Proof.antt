@@ -1,34 +1,43 @@
--- `bitmaps::push_word` meets its contract: one push. Assumes nothing.
-use Prim.Native.Nat.{_≤_}
-use mathlib.Core.List.{map}
+-- `bitmaps::push_word` meets its contract. The invariant: the bits of the runs taken off are added. Assumes nothing.
 use native.Mathlib.Omega.{arith}
 use borrow.Author.Needs.{needs}
-use lib.ListN.{length, length-map}
-use Rattle.format.specs.Rows.{setRows}
-use Rattle.bitmaps.specs.Push.{bitFrom}
-use Rattle.bitmaps.proofs.PushLaws.{adds-push, push-fits}
-use Rattle.bitmaps.proofs.WordWalk.{set-pushed, set-size}
+use Rattle.bitmaps.proofs.WordWalk.{Worded, word-none, word-more, word-done, word-fits}
 use Rattle.bitmaps.proofs.push_word.Statement.{statement}
 use Rattle.bitmaps.proofs.push_word.Tie as tie
 
-push-requires : tie.Need-push-requires
-push-requires c κs =
-    let b = c .before .before .before .before in
-    let a = b .args in
-    let vs = set-pushed (a .values .now) (a .from) (a .to .packer) (a .base) _ (a .word) (c .before .load64 .ensures) in
-    let size = length-map (setRows (a .base) (a .word)) (bitFrom (a .values .now) (a .from)) in (
-      b .pre .0,
-      push-fits (a .to) _ _ (map (bitFrom (a .values .now) (a .from)) (setRows (a .base) (a .word))) (b .pre .0) vs (rw size (set-size (a .base) (a .word)))
-          (rw size (b .pre .1 .1)),
-    )
+abbrev Inv-loop : tie.InvT-loop
+Inv-loop out₀ values from base word to₀ rest₀ out to rest = Worded values from base word out₀ to₀ out to rest
 
-returns : tie.Need-returns
-returns c =
-    let b = c .before .before .before .before .before .before .before in
-    let a = b .args in
-    let vs = set-pushed (a .values .now) (a .from) (a .to .packer) (a .base) _ (a .word) (c .before .before .before .before .load64 .ensures) in
-    let size = length-map (setRows (a .base) (a .word)) (bitFrom (a .values .now) (a .from)) in
-    adds-push (b .pre .0) vs (rw size (set-size (a .base) (a .word))) (c .before .before .push .ensures)
+abbrev μ-loop : tie.MeasureT-loop
+μ-loop out₀ values from base word to₀ rest₀ out to rest = rest
+
+push-low-requires : tie.Need-push-low-requires Inv-loop μ-loop
+push-low-requires c κs =
+    let l = c .before .before .before .before .before .before .loop in
+    let run = c .before .before .before .before .low-run .ensures in
+    (l .inv .adds .packed, (omega (arith, run .high), word-fits (l .inv) run (c .before .before .before .before .before .before .before .before .before .pre .1 .1)))
+
+loop-again : tie.Need-loop-again Inv-loop μ-loop
+loop-again c = word-more (c .before .before .before .before .before .before .before .before .before .loop .inv) (c .before .before .before .before .before .before .before .low-run .ensures) (c .before .before .before .before .before .load64 .ensures) (c .before .before .push-low .ensures)
+
+returns : tie.Need-returns Inv-loop μ-loop
+returns c = word-done (c .before .loop .inv) (c .loop-test .left)
 
 pub push-word-spec : {M : Type 1} → statement M
-push-word-spec = tie.close (tie.spec (λ c. search needs) (λ c κs. search needs) push-requires (λ c. search needs) returns)
+push-word-spec =
+    tie.close
+    (tie.spec
+    Inv-loop
+    μ-loop
+    (λ c. word-none (c .before .before .pre .0))
+    (λ c κs. search needs)
+    (λ c. omega (arith, c .before .low-run .ensures .filled, c .before .low-run .ensures .high))
+    (λ c. omega (arith, c .before .low-run .ensures .filled, c .before .low-run .ensures .high))
+    (λ c κs. search needs)
+    (λ c. omega (arith, c .before .before .before .before .low-run .ensures .filled))
+    (λ c. omega (arith, c .before .before .before .before .low-run .ensures .high))
+    push-low-requires
+    (λ c. c .before .before .before .before .before .before .before .low-run .ensures .less)
+    loop-again
+    (λ c. c .before .loop .inv .adds .size)
+    returns)

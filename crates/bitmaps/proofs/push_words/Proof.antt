@@ -7,7 +7,7 @@ use borrow.Author.Needs.{needs}
 use Rattle.format.specs.Slots.{countUp}
 use Rattle.bitmaps.specs.Push.{Adds, bitFrom}
 use Rattle.bitmaps.proofs.PushLaws.{adds-none, adds-then, adds-push, adds-room}
-use Rattle.bitmaps.proofs.WordWalk.{run-pushed, run-more, run-size}
+use Rattle.bitmaps.proofs.WordWalk.{run-bits, run-more, run-size}
 use Rattle.bitmaps.proofs.push_words.Statement.{statement}
 use Rattle.bitmaps.proofs.push_words.Tie as tie
 
@@ -24,14 +24,14 @@ loop-holds c =
     let none : a + 64 * 0 - a ≡ 0 = omega arith in
     (omega arith, rw none (adds-none (c .before .before .pre .0)))
 
-push-full-requires : tie.Need-push-full-requires Inv-loop μ-loop
-push-full-requires c κs =
+push-low-requires : tie.Need-push-low-requires Inv-loop μ-loop
+push-low-requires c κs =
     let b = c .before .before .before .before .before .before in
     let a = b .args in
     let l = c .before .before .before .loop in
     let done = run-size (a .values .now) (a .from) (a .a + 64 * l .w - a .a) (a .a) in
     let room = adds-room (64 * a .n) 64 (l .inv .1) (omega arith) (b .pre .1 .1) in
-    (l .inv .1 .packed, omega (arith, room))
+    (l .inv .1 .packed, (omega arith, room))
 
 loop-again : tie.Need-loop-again Inv-loop μ-loop
 loop-again c =
@@ -39,11 +39,11 @@ loop-again c =
     let a = b .args in
     let l = c .before .before .before .before .before .before .loop in
     let i = a .a + 64 * l .w in
-    let vs = run-pushed (a .values .now) (a .from) (l .to .packer) i _ (2 ^ 64 - 1) 64 (c .before .before .before .before .load64 .ensures) refl (omega arith) in
+    let vs = run-bits (a .values .now) (a .from) (l .to .packer) i _ 64 (c .before .before .before .before .load64 .ensures) (omega arith) in
     let size = run-size (a .values .now) (a .from) 64 i in (
       omega arith,
       rw (run-more (a .values .now) (a .from) (a .a) i (a .a + 64 * (l .w + 1)) 64 (omega arith) (omega arith))
-          (adds-then (l .inv .1) (adds-push (l .inv .1 .packed) vs (omega arith) (c .before .before .push-full .ensures))),
+          (adds-then (l .inv .1) (adds-push (l .inv .1 .packed) vs (omega arith) (c .before .before .push-low .ensures))),
     )
 
 returns : tie.Need-returns Inv-loop μ-loop
@@ -64,7 +64,7 @@ push-words-spec =
     (λ c. omega arith)
     (λ c. omega arith)
     (λ c κs. search needs)
-    push-full-requires
+    push-low-requires
     (λ c. omega arith)
     (λ c. omega arith)
     loop-again

@@ -1,10 +1,10 @@
 -- `bits::compress` meets its contract: by bytes where many bits are set, else bit by bit. Each turn then takes the lowest set bit off `rest`, so `rest` is the measure. Assumes nothing.
 use Prim.Native.Nat.{_-_}
-use mathlib.Core.Path.{_≡_, sym}
+use mathlib.Core.Path.{_≡_}
 use native.Mathlib.Omega.{arith}
 use borrow.Author.Needs.{needs}
 use lib.Count.{trailing-le}
-use Rattle.format.proofs.WordLaws.{compress-all, less-one, clear-lt}
+use Rattle.format.proofs.WordLaws.{less-one, clear-lt}
 use Rattle.bits.proofs.CompressLaws.{Gathered, begun, place-lt, room, turn, done}
 use Rattle.bits.proofs.LaneLaws.{joined-lanes}
 use Rattle.bits.proofs.compress.Statement.{statement}
@@ -16,18 +16,15 @@ Inv-loop value mask rest₀ out₀ filled₀ rest out filled = Gathered 64 value
 abbrev μ-loop : tie.MeasureT-loop
 μ-loop value mask rest₀ out₀ filled₀ rest out filled = rest
 
-returns : tie.Need-returns Inv-loop μ-loop
-returns c = sym (compress-all 64 _ _ (search needs) (omega arith))
-
 gather-bytes-requires : tie.Need-gather-bytes-requires Inv-loop μ-loop
 gather-bytes-requires c κs = search needs
 
 join-bytes-requires : tie.Need-join-bytes-requires Inv-loop μ-loop
 join-bytes-requires c κs = search needs
 
-returns-2 : tie.Need-returns-2 Inv-loop μ-loop
-returns-2 c =
-    let start = c .before .before .before .before in
+returns : tie.Need-returns Inv-loop μ-loop
+returns c =
+    let start = c .before .before .before in
     rw (c .join-bytes .ensures, c .before .gather-bytes .ensures) (joined-lanes 8 (start .args .value) (start .args .mask) (omega arith))
 
 loop-holds : tie.Need-loop-holds Inv-loop μ-loop
@@ -60,8 +57,8 @@ loop-less c = rw (subtracted c) (clear-lt (c .before .before .loop .rest) (searc
 loop-again : tie.Need-loop-again Inv-loop μ-loop
 loop-again c = rw (subtracted c) (turn (c .before .before .loop .inv) (search needs))
 
-returns-3 : tie.Need-returns-3 Inv-loop μ-loop
-returns-3 c = done (c .before .loop .inv) (c .loop-test .left)
+returns-2 : tie.Need-returns-2 Inv-loop μ-loop
+returns-2 c = done (c .before .loop .inv) (c .loop-test .left)
 
 pub compress-spec : {M : Type 1} → statement M
 compress-spec =
@@ -69,10 +66,9 @@ compress-spec =
     (tie.spec
     Inv-loop
     μ-loop
-    returns
     gather-bytes-requires
     join-bytes-requires
-    returns-2
+    returns
     loop-holds
     cast-out
     shr-out
@@ -82,4 +78,4 @@ compress-spec =
     wrapping-sub-u64-requires
     loop-less
     loop-again
-    returns-3)
+    returns-2)

@@ -1,36 +1,23 @@
--- `bits::packing_step` meets its contract: `current` has the low 64 bits of what waits and was picked, and the overflow is the rest. Assumes nothing.
-use native.Mathlib.Omega.{arith}
+-- `bits::packing_step` meets its contract: what compress gathers comes behind what waits. Assumes nothing.
+use mathlib.Core.Path.{ap, _∙_}
 use borrow.Author.Needs.{needs}
 use lib.Count.{ones-le}
-use Rattle.bits.proofs.PackLaws.{step-partial, step-full}
+use Rattle.bits.specs.Pack.{packing}
+use Rattle.bits.proofs.PackLaws.{picked-lt, pushed-bits}
 use Rattle.bits.proofs.packing_step.Statement.{statement}
 use Rattle.bits.proofs.packing_step.Tie as tie
 
-add-total : tie.Need-add-total
-add-total c = omega (arith, ones-le 64 (c .before .before .args .mask) (search needs))
+pack-bits-requires : tie.Need-pack-bits-requires
+pack-bits-requires c κs =
+    let b = c .before in (
+      b .pre,
+      (ones-le 64 (b .args .mask) (b .fits .mask .fits), rw (c .compress .ensures) (picked-lt (b .args .packer) (b .args .value) (b .args .mask) (b .fits .mask .fits))),
+    )
 
 returns : tie.Need-returns
 returns c =
-    let start = c .before .before .before in
-    rw (c .before .before .compress .ensures)
-    (step-partial (start .args .packer) (start .pre) (start .args .value) (start .args .mask) (start .fits .mask .fits) (c .if1 .taken))
-
-returns-2 : tie.Need-returns-2
-returns-2 c =
-    let start = c .before .before .before in
-    rw (c .before .before .compress .ensures)
-    (step-full (start .args .packer) (start .pre) (start .args .value) (start .args .mask) (start .fits .mask .fits) (c .if1 .left))
+    let b = c .before .before in
+    c .pack-bits .ensures ∙ rw (c .before .compress .ensures) (ap packing (pushed-bits (b .args .packer) (b .args .value) (b .args .mask) (b .fits .mask .fits)))
 
 pub packing-step-spec : {M : Type 1} → statement M
-packing-step-spec =
-    tie.close
-    (tie.spec
-    (λ c κs. search needs)
-    (λ c. search needs)
-    (λ c. search needs)
-    add-total
-    (λ c. search needs)
-    (λ c. search needs)
-    (λ c. search needs)
-    returns
-    returns-2)
+packing-step-spec = tie.close (tie.spec (λ c κs. search needs) pack-bits-requires returns)
