@@ -169,7 +169,8 @@ fn flush(out: &mut [u8], to: Bitmap) -> usize
 }
 
 // The same of a word that is not empty, by compress; but where its set bits stand together, as they mostly do where rows are picked in runs, there is
-// nothing to compress. It has one caller, so it is compiled into that loop: as a call for each word it took 3 to 8 % more of a column of bits.
+// nothing to compress. It has one caller, so it is compiled into that loop: under random masks of 10 to 81 % the test costs a column of bits
+// 1 to 3 % so, and 5 to 9 % as a call for each word.
 fn push_picked(
     out: &mut [u8],
     to: Bitmap,
