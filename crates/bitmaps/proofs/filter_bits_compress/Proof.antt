@@ -2,15 +2,11 @@
 use Prim.Native.Nat.{_+_, _-_, _*_, _≤_}
 use mathlib.Core.Logic.{⊎-elim}
 use mathlib.Core.Path.{_≡_, refl, ap, _∙_}
-use mathlib.Core.List.{_++_}
 use native.Mathlib.Omega.{arith}
 use borrow.Author.Needs.{needs}
-use lib.ListN.{length}
 use Rattle.format.specs.Bytes.{packed}
 use Rattle.format.specs.Slots.{picksFrom}
-use Rattle.format.specs.Words.{spare}
 use Rattle.format.proofs.Put.{same-size}
-use Rattle.bits.specs.Pack.{pushed}
 use Rattle.slots.specs.Source.{wordAt}
 use Rattle.bitmaps.specs.Push.{Packs}
 use Rattle.bitmaps.proofs.PushLaws.{packs-none, packs-done, flush-room}

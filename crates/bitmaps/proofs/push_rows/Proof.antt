@@ -1,13 +1,12 @@
 -- `bitmaps::push_rows` meets its contract. The invariant: the bits of the rows of the entries passed are added. Assumes nothing.
-use Prim.Native.Nat.{_+_, _-_, _*_, _/_, _≤_}
-use mathlib.Core.Path.{_≡_, refl, ap, _∙_}
+use Prim.Native.Nat.{_-_, _≤_}
+use mathlib.Core.Path.{_≡_, ap}
 use mathlib.Core.List.{map}
 use native.Mathlib.Nat.{sub-self}
 use native.Mathlib.Omega.{arith}
 use borrow.Author.Needs.{needs}
-use lib.ListN.{length, getD, take}
+use lib.ListN.{getD}
 use Rattle.format.specs.Bytes.{bytesAt}
-use Rattle.format.specs.Slots.{countUp}
 use Rattle.bitmaps.specs.Push.{Adds, bitFrom}
 use Rattle.bitmaps.proofs.PushLaws.{adds-none, adds-then, adds-push, adds-room}
 use Rattle.bitmaps.proofs.WordWalk.{run-bits, run-size, listed-more, listed-size}
