@@ -1,3 +1,3 @@
--- What the packer means, and a word as lanes.
-pub mod Lanes
+-- What the packer means, and the tables of compress.
+pub mod Fours
 pub mod Pack

@@ -1,76 +1,107 @@
 // Bits of 64-bit words: compress, and the packer that puts the bits picked of one word after another into full words.
 ghost use mathlib.Core.Path.{_≡_};
-ghost use Prim.Native.Nat.{_+_, _^_, _≤_, _<_};
+ghost use Prim.Native.Nat.{_+_, _*_, _^_, _≤_, _<_};
 ghost use mathlib.Core.List.{_++_};
 ghost use Rattle.format.specs.Words.{compress, lowBits};
-ghost use Rattle.bits.specs.Lanes.{lanesOf, joined};
+ghost use Rattle.bits.specs.Fours.{fourOf, countOf, Table};
 ghost use Rattle.bits.specs.Pack.{Packed, waiting, pushed, packing};
 
 // A mask with every bit of a word set.
 const ALL: u64 = 0xFFFF_FFFF_FFFF_FFFF;
 
-// The lowest bit of each byte.
-const LOWEST: u64 = 0x0101_0101_0101_0101;
+// A number for each mask and value of four bits, at mask * 16 + value, so a row for each mask: the value compressed by the mask.
+const FOURS: [u8; 256] = *b"\
+    \x00\x00\x00\x00\x00\x00\x00\x00\x00\x00\x00\x00\x00\x00\x00\x00\
+    \x00\x01\x00\x01\x00\x01\x00\x01\x00\x01\x00\x01\x00\x01\x00\x01\
+    \x00\x00\x01\x01\x00\x00\x01\x01\x00\x00\x01\x01\x00\x00\x01\x01\
+    \x00\x01\x02\x03\x00\x01\x02\x03\x00\x01\x02\x03\x00\x01\x02\x03\
+    \x00\x00\x00\x00\x01\x01\x01\x01\x00\x00\x00\x00\x01\x01\x01\x01\
+    \x00\x01\x00\x01\x02\x03\x02\x03\x00\x01\x00\x01\x02\x03\x02\x03\
+    \x00\x00\x01\x01\x02\x02\x03\x03\x00\x00\x01\x01\x02\x02\x03\x03\
+    \x00\x01\x02\x03\x04\x05\x06\x07\x00\x01\x02\x03\x04\x05\x06\x07\
+    \x00\x00\x00\x00\x00\x00\x00\x00\x01\x01\x01\x01\x01\x01\x01\x01\
+    \x00\x01\x00\x01\x00\x01\x00\x01\x02\x03\x02\x03\x02\x03\x02\x03\
+    \x00\x00\x01\x01\x00\x00\x01\x01\x02\x02\x03\x03\x02\x02\x03\x03\
+    \x00\x01\x02\x03\x00\x01\x02\x03\x04\x05\x06\x07\x04\x05\x06\x07\
+    \x00\x00\x00\x00\x01\x01\x01\x01\x02\x02\x02\x02\x03\x03\x03\x03\
+    \x00\x01\x00\x01\x02\x03\x02\x03\x04\x05\x04\x05\x06\x07\x06\x07\
+    \x00\x00\x01\x01\x02\x02\x03\x03\x04\x04\x05\x05\x06\x06\x07\x07\
+    \x00\x01\x02\x03\x04\x05\x06\x07\x08\x09\x0a\x0b\x0c\x0d\x0e\x0f\
+";
 
-// Words with fewer set bits go bit by bit. Measured with random masks, ns a row: .12 against .20 by bytes where 1 % of the bits are set, .17 where 3 % are, .22 against .21 where 5 % are.
-// 3 and 5 differ little from 4; 8 costs .29 at 10 %, where 4 costs .21.
-const FEW: u32 = 4;
+// At the same places: how many bits that is, as many as the mask has. With a count for each mask alone the place would have to be divided.
+const COUNTS: [u8; 256] = *b"\
+    \x00\x00\x00\x00\x00\x00\x00\x00\x00\x00\x00\x00\x00\x00\x00\x00\
+    \x01\x01\x01\x01\x01\x01\x01\x01\x01\x01\x01\x01\x01\x01\x01\x01\
+    \x01\x01\x01\x01\x01\x01\x01\x01\x01\x01\x01\x01\x01\x01\x01\x01\
+    \x02\x02\x02\x02\x02\x02\x02\x02\x02\x02\x02\x02\x02\x02\x02\x02\
+    \x01\x01\x01\x01\x01\x01\x01\x01\x01\x01\x01\x01\x01\x01\x01\x01\
+    \x02\x02\x02\x02\x02\x02\x02\x02\x02\x02\x02\x02\x02\x02\x02\x02\
+    \x02\x02\x02\x02\x02\x02\x02\x02\x02\x02\x02\x02\x02\x02\x02\x02\
+    \x03\x03\x03\x03\x03\x03\x03\x03\x03\x03\x03\x03\x03\x03\x03\x03\
+    \x01\x01\x01\x01\x01\x01\x01\x01\x01\x01\x01\x01\x01\x01\x01\x01\
+    \x02\x02\x02\x02\x02\x02\x02\x02\x02\x02\x02\x02\x02\x02\x02\x02\
+    \x02\x02\x02\x02\x02\x02\x02\x02\x02\x02\x02\x02\x02\x02\x02\x02\
+    \x03\x03\x03\x03\x03\x03\x03\x03\x03\x03\x03\x03\x03\x03\x03\x03\
+    \x02\x02\x02\x02\x02\x02\x02\x02\x02\x02\x02\x02\x02\x02\x02\x02\
+    \x03\x03\x03\x03\x03\x03\x03\x03\x03\x03\x03\x03\x03\x03\x03\x03\
+    \x03\x03\x03\x03\x03\x03\x03\x03\x03\x03\x03\x03\x03\x03\x03\x03\
+    \x04\x04\x04\x04\x04\x04\x04\x04\x04\x04\x04\x04\x04\x04\x04\x04\
+";
 
-// Of each byte of a word apart: the bits gathered to the byte's low end, and how many they are.
-struct Lanes {
-    bits: u64,
-    counts: u64,
+// The high four bits of each byte, and the low ones.
+const HIGH_FOURS: u64 = 0xF0F0_F0F0_F0F0_F0F0;
+
+const LOW_FOURS: u64 = 0x0F0F_0F0F_0F0F_0F0F;
+
+// The table of `compress`, with its rule.
+pub fn fours() -> [u8; 256]
+    ensures { λ r. ⌜ Table fourOf r ⌝ }
+{
+    FOURS
 }
 
-// In all eight bytes at once, from the highest bit of each: where the mask's bit is set, what the byte has moves up by one and the value's bit comes below it.
-fn gather_bytes(value: u64, mask: u64) -> Lanes
-    ensures { λ r. ⌜ r ≡ lanesOf value mask ⌝ }
+// How many bits each of its entries has.
+pub fn counts() -> [u8; 256]
+    ensures { λ r. ⌜ Table countOf r ⌝ }
 {
-    let mut bits: u64 = 0;
-    let mut counts: u64 = 0;
-    let mut i: u32 = 8;
-    while i > 0 {
-        i -= 1;
-        let set = (mask >> i) & LOWEST;
-        bits = bits + (bits & (set * 255)) + ((value >> i) & set);
-        counts += set;
-    }
-    Lanes { bits, counts }
+    COUNTS
 }
 
-// The bits of all bytes behind one another, from the highest byte: what is there moves up by the count of the byte below it.
-fn join_bytes(lanes: Lanes) -> u64
-    ensures { λ r. ⌜ r ≡ joined 8 8 (lanes .bits) (lanes .counts) ⌝ }
+// Four bits more, which mask and value have at `place` of the tables: what was gathered moves up by the count, and the entry comes below it.
+fn add_four(table: &[u8; 256], counts: &[u8; 256], out: u64, place: usize) -> u64
+    requires { ⌜ Table fourOf (now table) × Table countOf (now counts) ⌝ }
+    requires { ⌜ (out < 2 ^ 60) × (place < 256) ⌝ }
+    ensures { λ r. ⌜ r ≡ out * 2 ^ countOf place + fourOf place ⌝ }
 {
-    let bits = lanes.bits;
-    let counts = lanes.counts;
+    (out << counts[place]) + table[place] as u64
+}
+
+// `compress` by tables that its caller has: a constant is laid out anew at each call of the function that names it. By fours from the highest. Their
+// places in the table are made for all bytes at once: `highs` and `lows` have in each byte the mask's four above the value's.
+pub fn compress_by(table: &[u8; 256], counts: &[u8; 256], value: u64, mask: u64) -> u64
+    requires { ⌜ Table fourOf (now table) × Table countOf (now counts) ⌝ }
+    ensures { λ r. ⌜ r ≡ compress 64 value mask ⌝ }
+{
+    let highs = (mask & HIGH_FOURS) | ((value >> 4) & LOW_FOURS);
+    let lows = ((mask << 4) & HIGH_FOURS) | (value & LOW_FOURS);
     let mut out: u64 = 0;
-    let mut i: u32 = 8;
-    while i > 0 {
-        i -= 1;
-        let at = 8 * i;
-        out = ((bits >> at) & 255) | (out << ((counts >> at) & 63));
+    let mut at: u32 = 64;
+    while at > 0 {
+        at -= 8;
+        out = add_four(table, counts, out, ((highs >> at) % 256) as usize);
+        out = add_four(table, counts, out, ((lows >> at) % 256) as usize);
     }
     out
 }
 
-// The bits of value at the set bits of mask, gathered to the low end, order kept. Where few bits are set there is one turn for each, lowest first.
+// The bits of value at the set bits of mask, gathered to the low end, order kept.
 pub fn compress(value: u64, mask: u64) -> u64
     ensures { λ r. ⌜ r ≡ compress 64 value mask ⌝ }
 {
-    if u64::count_ones(mask) >= FEW {
-        return join_bytes(gather_bytes(value, mask));
-    }
-    let mut rest = mask;
-    let mut out: u64 = 0;
-    let mut filled: u32 = 0;
-    while rest != 0 {
-        let place = u64::trailing_zeros(rest);
-        out |= ((value >> place) & 1) << filled;
-        filled += 1;
-        rest &= std::num::wrapping_sub_u64(rest, 1);
-    }
-    out
+    let table = fours();
+    let lengths = counts();
+    compress_by(&table, &lengths, value, mask)
 }
 
 // The mask of the n lowest bits of a word.
