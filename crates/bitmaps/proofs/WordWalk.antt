@@ -1,7 +1,7 @@
 -- A bitmap column word by word: what a turn pushes, and that it fits. Assumes nothing.
 use Prim.Native.Nat.{ℕ, suc, _+_, _-_, _*_, _/_, _≤_, _<_}
 use mathlib.Core.Path.{_≡_, refl, sym, ap, _∙_}
-use mathlib.Core.Bool.{Bool, true, false}
+use mathlib.Core.Bool.{Bool}
 use mathlib.Core.List.{List, [], _∷_, _++_, map, map-append, append-nil, append-assoc}
 use mathlib.Core.Logic.{dite}
 use native.Mathlib.Nat.{zero-add}
@@ -17,7 +17,7 @@ use Rattle.format.proofs.SlotLaws.{picks-cat, picks-none, count-cat, up-cat, sl
 use Rattle.format.proofs.RowLaws.{set-from, set-none}
 use Rattle.format.proofs.WordLaws.{from-shift, low-from, low-slots, gather-map}
 use Rattle.format.proofs.Measure.{length-packed}
-use Rattle.bits.specs.Pack.{Packed, waiting, pushed}
+use Rattle.bits.specs.Pack.{Packed, waiting}
 use Rattle.bits.specs.declared.Packer.{Packer}
 use Rattle.slots.specs.Source.{slotOf, wordAt}
 use Rattle.slots.specs.declared.Bits.{Bits}
@@ -85,9 +85,9 @@ module _ (b : List ℕ) (from : ℕ) where
   run-bits p i v n e l = rw (e, from-shift) (ap (waiting p ++_) (low-slots (bitFrom b from) n 64 i l ∙ slots-up (bitFrom b from) n i))
 
   -- the rows of a word's set bits
-  pub set-pushed : (p : Packer) (base v x : ℕ) → v ≡ wordFrom (bitIn b) 64 (from + base) → pushed p v x ≡ waiting p ++ map (bitFrom b from) (setRows base x)
+  pub set-bits : (base v x : ℕ) → v ≡ wordFrom (bitIn b) 64 (from + base) → gather (lowBits 64 x) (lowBits 64 v) ≡ map (bitFrom b from) (setRows base x)
   unfolding bitFrom setRows
-  set-pushed p base v x e =
+  set-bits base v x e =
       rw (e, from-shift, low-from (bitFrom b from) 64 base, slots-up (bitFrom b from) 64 base, gather-map (bitFrom b from) (lowBits 64 x) (countUp 64 base))
 
   -- the rows passed, and n more
@@ -99,18 +99,6 @@ module _ (b : List ℕ) (from : ℕ) where
 
   pub run-size : (n i : ℕ) → length (map (bitFrom b from) (countUp n i)) ≡ n
   run-size n i = rw (length-map, length-up)
-
--- a word has at most 64 rows
-gather-le : (ms : List Bool) (xs : List ℕ) → length (gather ms xs) ≤ length xs
-unfolding gather
-gather-le [] xs = omega arith
-gather-le (t ∷ ms) [] = omega arith
-gather-le (true ∷ ms) (x ∷ xs) = omega (arith, gather-le ms xs)
-gather-le (false ∷ ms) (x ∷ xs) = omega (arith, gather-le ms xs)
-
-pub set-size : (base x : ℕ) → length (setRows base x) ≤ 64
-unfolding setRows
-set-size base x = omega (arith, gather-le (lowBits 64 x) (countUp 64 base), length-up 64 base)
 
 -- where a word has one run, its rows are those of the run
 pub one-run : {word from to rest : ℕ} → LowestRun word from to rest → rest ≡ 0 → (base : ℕ) → setRows base word ≡ countUp (to - from) (base + from)

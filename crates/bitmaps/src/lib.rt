@@ -12,7 +12,8 @@ ghost use Rattle.slots.specs.Source.{Lies, slotOf};
 ghost use Rattle.predicate.specs.Selection.{Holds, Readable, Sourced, keptBy};
 ghost use Rattle.format.specs.Mask.{byRoute};
 ghost use Rattle.format.specs.Write.{numbers};
-ghost use Rattle.bits.specs.Pack.{Packed, waiting, pushed, packing};
+ghost use Rattle.bits.specs.Fours.{fourOf, countOf, Table};
+ghost use Rattle.bits.specs.Pack.{Packed, Pushable, waiting, pushed};
 ghost use Rattle.bitmaps.specs.Push.{handedWords, Pushes, Adds, bitFrom, storedRows};
 use bits::Packer;
 use bits::Packing;
@@ -48,13 +49,13 @@ fn put_step(out: &mut [u8], here: usize, step: Packing) -> Bitmap
     }
 }
 
-// Adds the bits of value at the set bits of mask; a full word is written.
-fn push(out: &mut [u8], to: Bitmap, value: u64, mask: u64) -> Bitmap
-    requires { ⌜ Packed (to .packer) ⌝ }
-    requires { ⌜ to .here + length (numbers 8 (handedWords (packing (pushed (to .packer) value mask)))) ≤ length (now out) ⌝ }
-    ensures { λ r. ⌜ Pushes (pushed (to .packer) value mask) (now (out .entry)) to (now (out .exit)) r ⌝ }
+// Adds n bits; a full word is written.
+fn push(out: &mut [u8], to: Bitmap, bits: u64, n: u32) -> Bitmap
+    requires { ⌜ Pushable (to .packer) bits n ⌝ }
+    requires { ⌜ to .here + 8 * ((to .packer .filled + n) / 64) ≤ length (now out) ⌝ }
+    ensures { λ r. ⌜ Pushes (pushed (to .packer) bits n) (now (out .entry)) to (now (out .exit)) r ⌝ }
 {
-    let step = bits::pack_word(to.packer, value, mask);
+    let step = bits::pack_bits(to.packer, bits, n);
     put_step(out, to.here, step)
 }
 
@@ -65,8 +66,7 @@ fn push_low(out: &mut [u8], to: Bitmap, value: u64, n: u32) -> Bitmap
     ensures { λ r. ⌜ Pushes (waiting (to .packer) ++ lowBits n value) (now (out .entry)) to (now (out .exit)) r ⌝ }
 {
     let low = value & bits::low_ones(n);
-    let step = bits::pack_bits(to.packer, low, n);
-    put_step(out, to.here, step)
+    push(out, to, low, n)
 }
 
 // The bits of n whole words of rows, from row a on.
@@ -174,12 +174,14 @@ fn flush(out: &mut [u8], to: Bitmap) -> usize
 fn push_picked(
     out: &mut [u8],
     to: Bitmap,
+    table: &[u8; 256],
+    counts: &[u8; 256],
     values: &[u8],
     from: usize,
     base: usize,
     word: u64,
 ) -> Bitmap
-    requires { ⌜ Packed (to .packer) ⌝ }
+    requires { ⌜ Packed (to .packer) × Table fourOf (now table) × Table countOf (now counts) ⌝ }
     requires { ⌜ (0 < word) × (from + base < 2 ^ 62) ⌝ }
     requires { ⌜ to .here + 8 * ((to .packer .filled + length (setRows base word)) / 64) ≤ length (now out) ⌝ }
     ensures { λ r. ⌜ Adds (map (bitFrom (now (values .entry)) from) (setRows base word)) (now (out .entry)) to (now (out .exit)) r ⌝ }
@@ -190,7 +192,8 @@ fn push_picked(
         return push_low(out, to, near, (run.to - run.from) as u32);
     }
     let v = slots::load64(values, from + base);
-    push(out, to, v, word)
+    let low = bits::compress_by(table, counts, v, word);
+    push(out, to, low, u64::count_ones(word))
 }
 
 // The bits of the picked rows, row 0 at bit `from` of the values: word by word, the mask's word compresses the values'.
@@ -214,6 +217,8 @@ pub fn filter_bits_compress(
             filled: 0,
         },
     };
+    let table = bits::fours();
+    let counts = bits::counts();
     let mut w: usize = 0;
     let len = mask.len;
     while 64 * w < len {
@@ -225,7 +230,7 @@ pub fn filter_bits_compress(
         let base = 64 * w;
         w += 1;
         if x != 0 {
-            to = push_picked(out, to, values, from, base, x);
+            to = push_picked(out, to, &table, &counts, values, from, base, x);
         } else if w % scan::SPACING == 0 {
             w = scan::blank_end(s, mask, w);
         }

@@ -9,7 +9,7 @@ use native.Mathlib.Nat.{eq-zero-or-pos}
 use native.Mathlib.Omega.{arith}
 use borrow.Author.Tests.{lt-ltb, le-ltb}
 use lib.Bits.{bitOr}
-use lib.Count.{ones}
+use lib.Count.{ones, ones-le}
 use lib.ListN.{length, take, drop, length-append, length-drop, take-append-drop}
 use lib.Seq.{length-take-le}
 use Rattle.format.specs.Bytes.{packed, bytesFor, toLe}
@@ -17,7 +17,7 @@ use Rattle.format.specs.Words.{lowBits, wordOf, gather, compress, fullWords, sp
 use Rattle.format.specs.Write.{numbers}
 use Rattle.format.proofs.WordLaws.{length-low, low-word, word-low, word-lt, word-mod, word-append, word-take, word-drop, or-shl, shifted-out, length-gather}
 use Rattle.format.proofs.PackedLaws.{words-more, spare-more, words-none, words-one, words-append, spare-append, spare-all, length-spare, packed-word, packed-words}
-use Rattle.bits.specs.Pack.{Packed, waiting, pushed, packerOf, partial, full, packing, handed}
+use Rattle.bits.specs.Pack.{Packed, Pushable, waiting, pushed, packerOf, partial, full, packing, handed}
 use Rattle.bits.specs.declared.Packer.{Packer}
 use Rattle.bits.specs.declared.Packing.{Packing}
 use Rattle.bits.specs.declared.Pushed.the-variants.{Word, Nothing}
@@ -50,50 +50,50 @@ packing-packed ts l =
     (λ (h : 64 ≤ length ts). rw (packing-full ts h) (record { room = simp length-drop (omega arith); clear = word-lt (drop 64 ts) }))
     (fills (length ts))
 
--- the step: n bits come behind those that wait
-module _ (p : Packer) (ok : Packed p) (bits n : ℕ) (fits : bits < 2 ^ n) where
-  length-behind : length (waiting p ++ lowBits n bits) ≡ p .filled + n
-  length-behind = simp (length-append, length-low)
+-- the step
+module _ (p : Packer) (bits n : ℕ) (ok : Pushable p bits n) where
+  length-pushed : length (pushed p bits n) ≡ p .filled + n
+  length-pushed = simp (length-append, length-low)
 
-  word-behind : wordOf (waiting p ++ lowBits n bits) ≡ bits * 2 ^ p .filled + p .current
-  word-behind = rw (word-append, length-low, word-low (p .filled) (p .current) (ok .clear), word-low n bits fits)
+  word-pushed : wordOf (pushed p bits n) ≡ bits * 2 ^ p .filled + p .current
+  word-pushed = rw (word-append, length-low, word-low (p .filled) (p .current) (ok .packed .clear), word-low n bits (ok .small))
 
-  word : bitOr (p .current) ((bits * 2 ^ p .filled) % 2 ^ 64) ≡ wordOf (waiting p ++ lowBits n bits) % 2 ^ 64
-  word = rw word-behind (or-shl 64 (p .filled) bits (p .current) (omega (arith, ok .room)) (ok .clear))
+  word : bitOr (p .current) ((bits * 2 ^ p .filled) % 2 ^ 64) ≡ wordOf (pushed p bits n) % 2 ^ 64
+  word = rw word-pushed (or-shl 64 (p .filled) bits (p .current) (omega (arith, ok .packed .room)) (ok .packed .clear))
 
-  overflow : bits / 2 / 2 ^ (63 - p .filled) ≡ wordOf (waiting p ++ lowBits n bits) / 2 ^ 64
+  overflow : bits / 2 / 2 ^ (63 - p .filled) ≡ wordOf (pushed p bits n) / 2 ^ 64
   overflow =
-      let width : 64 ≡ p .filled + (1 + (63 - p .filled)) = omega (arith, ok .room) in
+      let width : 64 ≡ p .filled + (1 + (63 - p .filled)) = omega (arith, ok .packed .room) in
       sym
-      (ap (λ (w : ℕ). wordOf (waiting p ++ lowBits n bits) / 2 ^ w) width
-      ∙ rw word-behind (shifted-out (p .filled) (63 - p .filled) bits (p .current) (ok .clear)))
+      (ap (λ (w : ℕ). wordOf (pushed p bits n) / 2 ^ w) width
+      ∙ rw word-pushed (shifted-out (p .filled) (63 - p .filled) bits (p .current) (ok .packed .clear)))
 
   pub step-partial : p .filled + n < 64
-      → partial (record { current = bitOr (p .current) ((bits * 2 ^ p .filled) % 2 ^ 64); filled = p .filled + n })
-      ≡ packing (waiting p ++ lowBits n bits)
+      → partial (record { current = bitOr (p .current) ((bits * 2 ^ p .filled) % 2 ^ 64); filled = p .filled + n }) ≡ packing (pushed p bits n)
   step-partial h =
-      let short : length (waiting p ++ lowBits n bits) < 64 = omega (arith, length-behind) in
-      rw (packing-partial _ short, word, word-mod 64 (waiting p ++ lowBits n bits) (omega arith), length-behind)
+      let short : length (pushed p bits n) < 64 = omega (arith, length-pushed) in
+      rw (packing-partial _ short, word, word-mod 64 (pushed p bits n) (omega arith), length-pushed)
 
   pub step-full : 64 ≤ p .filled + n
       → full (bitOr (p .current) ((bits * 2 ^ p .filled) % 2 ^ 64)) (record { current = bits / 2 / 2 ^ (63 - p .filled); filled = p .filled + n - 64 })
-      ≡ packing (waiting p ++ lowBits n bits)
+      ≡ packing (pushed p bits n)
   step-full h =
-      let long : 64 ≤ length (waiting p ++ lowBits n bits) = omega (arith, length-behind) in
-      rw (packing-full _ long, word, overflow, word-take 64 (waiting p ++ lowBits n bits), word-drop 64 (waiting p ++ lowBits n bits), length-drop, length-behind)
+      let long : 64 ≤ length (pushed p bits n) = omega (arith, length-pushed) in
+      rw (packing-full _ long, word, overflow, word-take 64 (pushed p bits n), word-drop 64 (pushed p bits n), length-drop, length-pushed)
 
--- what compress gathers is pushed: as many bits as the mask has ones
-module _ (p : Packer) (value mask : ℕ) (fits : mask < 2 ^ 64) where
+-- what compress gathers may be pushed: as many bits as the mask has ones
+module _ (p : Packer) (ok : Packed p) (value mask : ℕ) (fits : mask < 2 ^ 64) where
   picked : length (gather (lowBits 64 mask) (lowBits 64 value)) ≡ ones mask
   picked = length-gather 64 mask (lowBits 64 value) fits (length-low 64 value)
 
-  pub picked-lt : compress 64 value mask < 2 ^ ones mask
+  pub picks-able : Pushable p (compress 64 value mask) (ones mask)
   unfolding compress
-  picked-lt = rw (← picked) (word-lt (gather (lowBits 64 mask) (lowBits 64 value)))
+  picks-able =
+      record { packed = ok; width = ones-le 64 mask fits; small = rw picked at (word-lt (gather (lowBits 64 mask) (lowBits 64 value))) }
 
-  pub pushed-bits : waiting p ++ lowBits (ones mask) (compress 64 value mask) ≡ pushed p value mask
+  pub picks-pushed : pushed p (compress 64 value mask) (ones mask) ≡ waiting p ++ gather (lowBits 64 mask) (lowBits 64 value)
   unfolding compress
-  pushed-bits = rw (← picked, low-word)
+  picks-pushed = rw (← picked, low-word)
 
 -- ---- bits packed one after another: the full words of all bits so far were handed out, and their spare bits wait
 

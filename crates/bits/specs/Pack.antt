@@ -1,10 +1,10 @@
 -- A packer stands for a list of fewer than 64 bits that wait for a full word. Assumes nothing.
-use Prim.Native.Nat.{ℕ, _^_, _<_}
+use Prim.Native.Nat.{ℕ, _^_, _≤_, _<_}
 use mathlib.Core.Bool.{Bool, cond}
 use mathlib.Core.List.{List, [], _++_}
 use lib.Dec.{ltb}
 use lib.ListN.{length, take, drop}
-use Rattle.format.specs.Words.{lowBits, wordOf, gather}
+use Rattle.format.specs.Words.{lowBits, wordOf}
 use Rattle.bits.specs.declared.Packer.{Packer}
 use Rattle.bits.specs.declared.Packing.{Packing}
 use Rattle.bits.specs.declared.Pushed.{Pushed}
@@ -19,9 +19,15 @@ pub record Packed (p : Packer) : Type 0 where
   pub room : p .filled < 64
   pub clear : p .current < 2 ^ p .filled
 
--- the bits that wait, and behind them those of value at the set bits of mask
+-- the n lowest bits of a number may be pushed: at most a word of them, and no other bit is set
+pub record Pushable (p : Packer) (bits n : ℕ) : Type 0 where
+  pub packed : Packed p
+  pub width : n ≤ 64
+  pub small : bits < 2 ^ n
+
+-- the bits that wait, and those n behind them
 abbrev pub pushed : Packer → ℕ → ℕ → List Bool
-pushed p value mask = waiting p ++ gather (lowBits 64 mask) (lowBits 64 value)
+pushed p bits n = waiting p ++ lowBits n bits
 
 -- the packer in which these bits wait
 abbrev pub packerOf : List Bool → Packer

@@ -1,10 +1,9 @@
 // Bits of 64-bit words: compress, and the packer that puts the bits picked of one word after another into full words.
 ghost use mathlib.Core.Path.{_≡_};
 ghost use Prim.Native.Nat.{_+_, _*_, _^_, _≤_, _<_};
-ghost use mathlib.Core.List.{_++_};
-ghost use Rattle.format.specs.Words.{compress, lowBits};
+ghost use Rattle.format.specs.Words.{compress};
 ghost use Rattle.bits.specs.Fours.{fourOf, countOf, Table};
-ghost use Rattle.bits.specs.Pack.{Packed, waiting, pushed, packing};
+ghost use Rattle.bits.specs.Pack.{Pushable, pushed, packing};
 
 // A mask with every bit of a word set.
 const ALL: u64 = 0xFFFF_FFFF_FFFF_FFFF;
@@ -133,11 +132,10 @@ pub struct Packing {
     pub word: Pushed,
 }
 
-// Adds n bits behind those that wait.
-pub fn pack_bits(packer: Packer, bits: u64, n: u32) -> Packing
-    requires { ⌜ Packed packer ⌝ }
-    requires { ⌜ (n ≤ 64) × (bits < 2 ^ n) ⌝ }
-    ensures { λ r. ⌜ r ≡ packing (waiting packer ++ lowBits n bits) ⌝ }
+// Adds n bits behind those that wait: what compress gathered, or bits that stand together.
+pub fn packing_step(packer: Packer, bits: u64, n: u32) -> Packing
+    requires { ⌜ Pushable packer bits n ⌝ }
+    ensures { λ r. ⌜ r ≡ packing (pushed packer bits n) ⌝ }
 {
     let filled = packer.filled;
     let current = packer.current | (bits << filled);
@@ -162,34 +160,25 @@ pub fn pack_bits(packer: Packer, bits: u64, n: u32) -> Packing
     }
 }
 
-// Adds the bits of value at the set bits of mask behind those that wait.
-pub fn packing_step(packer: Packer, value: u64, mask: u64) -> Packing
-    requires { ⌜ Packed packer ⌝ }
-    ensures { λ r. ⌜ r ≡ packing (pushed packer value mask) ⌝ }
-{
-    let bits = compress(value, mask);
-    pack_bits(packer, bits, u64::count_ones(mask))
-}
-
 impl Packer {
-    // Adds the bits of value at the set bits of mask behind those that wait, and hands back the word that they fill.
-    pub fn push(&mut self, value: u64, mask: u64) -> Pushed
-        requires { ⌜ Packed (now self) ⌝ }
-        ensures { λ r. ⌜ (now (self .exit) ≡ packing (pushed (now (self .entry)) value mask) .packer)
-            × (r ≡ packing (pushed (now (self .entry)) value mask) .word) ⌝ }
+    // Adds n bits behind those that wait, and hands back the word that they fill.
+    pub fn push(&mut self, bits: u64, n: u32) -> Pushed
+        requires { ⌜ Pushable (now self) bits n ⌝ }
+        ensures { λ r. ⌜ (now (self .exit) ≡ packing (pushed (now (self .entry)) bits n) .packer)
+            × (r ≡ packing (pushed (now (self .entry)) bits n) .word) ⌝ }
     {
-        let step = packing_step(*self, value, mask);
+        let step = packing_step(*self, bits, n);
         *self = step.packer;
         step.word
     }
 }
 
 // `push` for a caller that has the packer by value: the packer is lent here, so that the caller's proof is not by hand.
-pub fn pack_word(packer: Packer, value: u64, mask: u64) -> Packing
-    requires { ⌜ Packed packer ⌝ }
-    ensures { λ r. ⌜ r ≡ packing (pushed packer value mask) ⌝ }
+pub fn pack_bits(packer: Packer, bits: u64, n: u32) -> Packing
+    requires { ⌜ Pushable packer bits n ⌝ }
+    ensures { λ r. ⌜ r ≡ packing (pushed packer bits n) ⌝ }
 {
     let mut held = packer;
-    let word = held.push(value, mask);
+    let word = held.push(bits, n);
     Packing { packer: held, word }
 }

@@ -1,23 +1,24 @@
--- `bits::packing_step` meets its contract: what compress gathers comes behind what waits. Assumes nothing.
-use mathlib.Core.Path.{ap, _∙_}
-use borrow.Author.Needs.{needs}
-use lib.Count.{ones-le}
-use Rattle.bits.specs.Pack.{packing}
-use Rattle.bits.proofs.PackLaws.{picked-lt, pushed-bits}
+-- `bits::packing_step` meets its contract: `current` has the low 64 bits of what waits and came, and the overflow is the rest. Assumes nothing.
+use native.Mathlib.Omega.{arith}
+use Rattle.bits.proofs.PackLaws.{step-partial, step-full}
 use Rattle.bits.proofs.packing_step.Statement.{statement}
 use Rattle.bits.proofs.packing_step.Tie as tie
 
-pack-bits-requires : tie.Need-pack-bits-requires
-pack-bits-requires c κs =
-    let b = c .before in (
-      b .pre,
-      (ones-le 64 (b .args .mask) (b .fits .mask .fits), rw (c .compress .ensures) (picked-lt (b .args .packer) (b .args .value) (b .args .mask) (b .fits .mask .fits))),
-    )
-
 returns : tie.Need-returns
-returns c =
-    let b = c .before .before in
-    c .pack-bits .ensures ∙ rw (c .before .compress .ensures) (ap packing (pushed-bits (b .args .packer) (b .args .value) (b .args .mask) (b .fits .mask .fits)))
+returns c = step-partial _ _ _ (c .before .before .pre) (c .if1 .taken)
+
+returns-2 : tie.Need-returns-2
+returns-2 c = step-full _ _ _ (c .before .before .pre) (c .if1 .left)
 
 pub packing-step-spec : {M : Type 1} → statement M
-packing-step-spec = tie.close (tie.spec (λ c κs. search needs) pack-bits-requires returns)
+packing-step-spec =
+    tie.close
+    (tie.spec
+    (λ c. omega (arith, c .pre .packed .room))
+    (λ c. c .pre .packed .room)
+    (λ c. omega (arith, c .before .pre .packed .room, c .before .pre .width))
+    (λ c. omega (arith, c .before .before .pre .packed .room))
+    (λ c. omega arith)
+    (λ c. omega arith)
+    returns
+    returns-2)
