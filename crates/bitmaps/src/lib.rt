@@ -66,7 +66,8 @@ fn push_low(out: &mut [u8], to: Bitmap, value: u64, n: u32) -> Bitmap
     ensures { λ r. ⌜ Pushes (waiting (to .packer) ++ lowBits n value) (now (out .entry)) to (now (out .exit)) r ⌝ }
 {
     let low = value & bits::low_ones(n);
-    push(out, to, low, n)
+    let step = bits::packing_step(to.packer, low, n);
+    put_step(out, to.here, step)
 }
 
 // The bits of n whole words of rows, from row a on.

@@ -1,9 +1,11 @@
 //! The port beside filter.rs, on the same packs, in one process: processor time of one thread in ns for each journal row, the least of
 //! many calls. Needs the feature `port`.
 //!
-//!     bench [--markdown] [COLUMN ...]
+//!     bench [--markdown] [--native PROGRAM] [COLUMN ...]
+//!     bench --filter-only [COLUMN ...]
 //!
 //! filter      filter.rs's `filter` on arrays built beforehand
+//! native      with --native: the same by PROGRAM, this program built for this processor (pext, popcnt, AVX), run for each column in turn
 //! plain       for lists, which filter.rs leaves to arrow-data: a filter for that one column in plain Rust, on arrays built beforehand
 //! validation  the content rules that must hold before such arrays may be built, in Rust: the fastest of two ways to join the tests and
 //!             two forms of the test of a view
@@ -24,6 +26,7 @@ use host::port::entry::{self, Lent};
 use host::rust;
 use plain::Lists;
 use std::hint::black_box;
+use std::process::{Command, exit};
 use validate::VALIDATIONS;
 
 /// Kept rows in thousandths: at the ends, in the middle, and on both sides of the route's threshold.
@@ -90,6 +93,7 @@ struct Plain {
 /// Times of one column under one mask, in ns for each row.
 struct Cell {
     filter: f64,
+    native: Option<f64>,
     /// for lists
     plain: Option<Plain>,
     whole: f64,
@@ -118,10 +122,14 @@ impl Timed {
     }
 }
 
-fn time_cell(room: &mut Room, mask: &[u8], journal: &[u8], rows: usize) -> Cell {
+fn time_filter(mask: &[u8], journal: &[u8], rows: usize) -> f64 {
     let array = rust::build(&Pack::read(journal).unwrap());
     let mask_array = rust::mask_array(&Pack::read(mask).unwrap());
-    let filter = least(|| drop(black_box(filter(black_box(array.as_ref()), black_box(&mask_array)).unwrap())));
+    least(|| drop(black_box(filter(black_box(array.as_ref()), black_box(&mask_array)).unwrap()))) / rows as f64
+}
+
+fn time_cell(room: &mut Room, mask: &[u8], journal: &[u8], rows: usize) -> Cell {
+    let filter = time_filter(mask, journal, rows);
     let mut answer = [0; 4];
     let whole = least(|| {
         let lent = Lent { list: &mut [], scratch: &mut room.scratch, output: &mut room.output };
@@ -146,26 +154,51 @@ fn time_cell(room: &mut Room, mask: &[u8], journal: &[u8], rows: usize) -> Cell 
     let bytes = (answer[3] as usize).min(journal.len());
     let prepare = least(|| assert_eq!(entry::prepare(black_box(mask), None, false, &mut [], &mut answer), 0));
     let memcpy = least(|| black_box(&mut room.output[..bytes]).copy_from_slice(black_box(&journal[..bytes])));
-    Cell { filter: row(filter), plain, whole: row(whole), prepare: row(prepare), memcpy: row(memcpy) }
+    Cell { filter, native: None, plain, whole: row(whole), prepare: row(prepare), memcpy: row(memcpy) }
 }
 
-fn time_column(room: &mut Room, (name, rows, make): Column) -> Timed {
+/// A column's journal, and what its masks are drawn from.
+fn make_column((name, rows, make): Column) -> (Vec<u8>, Rng) {
     let mut r = Rng::new(SEED);
     let mut making = Making::default();
     make(&mut making, &mut r, rows);
     let journal = making.finish();
     assert_eq!(host::model::check(&journal), 0, "{name}");
+    (journal, r)
+}
+
+/// What `cell` answers under each mask, by masks, then by density.
+fn by_masks<T>(r: &mut Rng, rows: usize, mut cell: impl FnMut(&[u8]) -> T) -> Vec<Vec<T>> {
+    let spreads: [fn(&mut Rng, usize, usize) -> Vec<bool>; 2] = [columns::random, columns::clustered];
+    spreads.map(|spread| DENSITIES.map(|density| cell(&columns::mask(&spread(r, rows, rows * density / 1000)))).into()).into()
+}
+
+/// filter.rs's times in another build of this program, in the order of `by_masks`.
+fn native_times(program: &str, column: &str) -> Vec<f64> {
+    let failed = |why: String| -> ! {
+        eprintln!("{program}: {why}");
+        exit(1)
+    };
+    let run = Command::new(program).args(["--filter-only", column]).output().unwrap_or_else(|e| failed(e.to_string()));
+    let text = String::from_utf8_lossy(&run.stdout);
+    let times: Vec<f64> = text.split_whitespace().map_while(|word| word.parse().ok()).collect();
+    if times.len() != MASKS.len() * DENSITIES.len() {
+        failed(format!("no times of {column}"));
+    }
+    times
+}
+
+fn time_column(room: &mut Room, native: Option<&String>, column: Column) -> Timed {
+    let (name, rows, _) = column;
+    let (journal, mut r) = make_column(column);
     let pack = Pack::read(&journal).unwrap();
     let validation = VALIDATIONS.map(|valid| least(|| assert!(valid(black_box(&pack))))).into_iter().reduce(f64::min).unwrap();
     let check = least(|| assert_eq!(entry::check(black_box(&journal)), 0));
-    let mut by_masks = |spread: fn(&mut Rng, usize, usize) -> Vec<bool>| {
-        let mut cell = |density: usize| {
-            let mask = columns::mask(&spread(&mut r, rows, rows * density / 1000));
-            time_cell(room, &mask, &journal, rows)
-        };
-        DENSITIES.map(&mut cell).into()
-    };
-    let cells = vec![by_masks(columns::random), by_masks(columns::clustered)];
+    let mut cells = by_masks(&mut r, rows, |mask| time_cell(room, mask, &journal, rows));
+    if let Some(program) = native {
+        let times = native_times(program, name);
+        cells.iter_mut().flatten().zip(times).for_each(|(cell, ns)| cell.native = Some(ns));
+    }
     let row = |ns: f64| ns / rows as f64;
     Timed { name, rows, bytes: journal.len(), validation: row(validation), check: row(check), cells }
 }
@@ -202,15 +235,18 @@ fn print_all(markdown: bool, columns: &[Timed]) {
         title(format!("{}: {} rows, {} bytes", c.name, c.rows, c.bytes));
         let mut head =
             vec!["masks, kept", "filter", "validation", "both", "check", "prepare", "rest", "whole", "memcpy", "ratio"];
-        let plain = c.cells[0][0].plain.is_some();
-        if plain {
+        if c.cells[0][0].plain.is_some() {
             head.insert(2, "plain");
+        }
+        if c.cells[0][0].native.is_some() {
+            head.insert(2, "native");
         }
         let mut table = vec![head.into_iter().map(String::from).collect()];
         for (masks, cells) in MASKS.iter().zip(&c.cells) {
             for (density, x) in DENSITIES.iter().zip(cells) {
                 let rest = x.whole - c.check - x.prepare;
                 let mut times = vec![x.filter];
+                times.extend(x.native);
                 times.extend(x.plain.as_ref().map(|plain| plain.alone));
                 times.extend([c.validation, c.both(x), c.check, x.prepare, rest, x.whole, x.memcpy]);
                 let mut row = vec![format!("{masks} {}", percent(*density))];
@@ -224,16 +260,37 @@ fn print_all(markdown: bool, columns: &[Timed]) {
 }
 
 fn main() {
-    let words: Vec<String> = std::env::args().skip(1).collect();
-    let markdown = words.iter().any(|word| word == "--markdown");
-    let named: Vec<&String> = words.iter().filter(|word| *word != "--markdown").collect();
+    let mut words: Vec<String> = std::env::args().skip(1).collect();
+    let mut flag = |name: &str| words.iter().position(|word| word == name).map(|at| (words.remove(at), at).1);
+    let markdown = flag("--markdown").is_some();
+    let filter_only = flag("--filter-only").is_some();
+    let native = flag("--native").map(|at| {
+        if at == words.len() {
+            eprintln!("--native needs the path of a program");
+            exit(2);
+        }
+        words.remove(at)
+    });
+    if let Some(word) = words.iter().find(|word| COLUMNS.iter().all(|column| column.0 != **word)) {
+        eprintln!("no column {word}");
+        exit(2);
+    }
     reuse_memory();
+    let named = COLUMNS.iter().filter(|column| words.is_empty() || words.iter().any(|name| *name == column.0));
+    if filter_only {
+        for column in named {
+            let (journal, mut r) = make_column(*column);
+            let times = by_masks(&mut r, column.1, |mask| time_filter(mask, &journal, column.1));
+            times.iter().flatten().for_each(|ns| println!("{ns}"));
+        }
+        return;
+    }
     // two nodes, one below the other, each with a child of as many rows as a node may have
     let mut room = Room { scratch: vec![0; 2 * ROW_LIMIT as usize / 8], output: vec![0; PACK_LIMIT] };
     let mut timed = vec![];
-    for column in COLUMNS.iter().filter(|column| named.is_empty() || named.iter().any(|name| *name == column.0)) {
+    for column in named {
         eprintln!("{}", column.0);
-        timed.push(time_column(&mut room, *column));
+        timed.push(time_column(&mut room, native.as_ref(), *column));
     }
     print_all(markdown, &timed);
 }
