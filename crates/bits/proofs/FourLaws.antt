@@ -16,13 +16,13 @@ use Rattle.bits.specs.Fours.{fourOf, countOf, Table}
 
 module _ (j value mask : ℕ) where
   -- as many bits are gathered as the mask has
-  length-picks : length (gather (lowBits j mask) (lowBits j value)) ≡ ones (mask % 2 ^ j)
+  pub length-picks : length (gather (lowBits j mask) (lowBits j value)) ≡ ones (mask % 2 ^ j)
   length-picks = rw (← low-mod j mask) (length-gather j (mask % 2 ^ j) (lowBits j value) (mod-lt mask (pow-pos j)) (length-low j value))
 
   ones-part : ones (mask % 2 ^ j) ≤ j
   ones-part = ones-le j (mask % 2 ^ j) (mod-lt mask (pow-pos j))
 
-  compress-lt : compress j value mask < 2 ^ ones (mask % 2 ^ j)
+  pub compress-lt : compress j value mask < 2 ^ ones (mask % 2 ^ j)
   unfolding compress
   compress-lt = rw length-picks at (word-lt (gather (lowBits j mask) (lowBits j value)))
 

@@ -5,7 +5,7 @@ use mathlib.Core.Bool.{Bool}
 use mathlib.Core.List.{List, [], _∷_, _++_, append-nil}
 use mathlib.Core.Logic.{_⊎_, inl, inr, ⊎-elim}
 use mathlib.Core.Path.{_≡_, sym, ap, _∙_}
-use native.Mathlib.Nat.{eq-zero-or-pos}
+use native.Mathlib.Nat.{eq-zero-or-pos, mod-eq-of-lt}
 use native.Mathlib.Omega.{arith}
 use borrow.Author.Tests.{lt-ltb, le-ltb}
 use lib.Bits.{bitOr}
@@ -15,9 +15,10 @@ use lib.Seq.{length-take-le}
 use Rattle.format.specs.Bytes.{packed, bytesFor, toLe}
 use Rattle.format.specs.Words.{lowBits, wordOf, gather, compress, fullWords, spare}
 use Rattle.format.specs.Write.{numbers}
-use Rattle.format.proofs.WordLaws.{length-low, low-word, word-low, word-lt, word-mod, word-append, word-take, word-drop, or-shl, shifted-out, length-gather}
+use Rattle.format.proofs.WordLaws.{length-low, low-word, word-low, word-lt, word-mod, word-append, word-take, word-drop, or-shl, shifted-out}
 use Rattle.format.proofs.PackedLaws.{words-more, spare-more, words-none, words-one, words-append, spare-append, spare-all, length-spare, packed-word, packed-words}
 use Rattle.bits.specs.Pack.{Packed, Pushable, waiting, pushed, packerOf, partial, full, packing, handed}
+use Rattle.bits.proofs.FourLaws.{length-picks, compress-lt}
 use Rattle.bits.specs.declared.Packer.{Packer}
 use Rattle.bits.specs.declared.Packing.{Packing}
 use Rattle.bits.specs.declared.Pushed.the-variants.{Word, Nothing}
@@ -83,17 +84,15 @@ module _ (p : Packer) (bits n : ℕ) (ok : Pushable p bits n) where
 
 -- what compress gathers may be pushed: as many bits as the mask has ones
 module _ (p : Packer) (ok : Packed p) (value mask : ℕ) (fits : mask < 2 ^ 64) where
-  picked : length (gather (lowBits 64 mask) (lowBits 64 value)) ≡ ones mask
-  picked = length-gather 64 mask (lowBits 64 value) fits (length-low 64 value)
+  whole : ones (mask % 2 ^ 64) ≡ ones mask
+  whole = ap ones (mod-eq-of-lt fits)
 
   pub picks-able : Pushable p (compress 64 value mask) (ones mask)
-  unfolding compress
-  picks-able =
-      record { packed = ok; width = ones-le 64 mask fits; small = rw picked at (word-lt (gather (lowBits 64 mask) (lowBits 64 value))) }
+  picks-able = record { packed = ok; width = ones-le 64 mask fits; small = rw whole at (compress-lt 64 value mask) }
 
   pub picks-pushed : pushed p (compress 64 value mask) (ones mask) ≡ waiting p ++ gather (lowBits 64 mask) (lowBits 64 value)
   unfolding compress
-  picks-pushed = rw (← picked, low-word)
+  picks-pushed = rw (← whole, ← length-picks 64 value mask, low-word)
 
 -- ---- bits packed one after another: the full words of all bits so far were handed out, and their spare bits wait
 

@@ -75,12 +75,6 @@ take-low n w x h =
     let e : w ≡ n + (w - n) = omega arith in
     rw (e, low-add) (take-at (lowBits n x) _ n (length-low n x))
 
-pub getD-low : (n x i : ℕ) → i < n → getD (lowBits n x) i false ≡ odd (x / 2 ^ i)
-unfolding lowBits
-getD-low zero x i h = absurd (omega arith)
-getD-low (suc n) x zero h = rw div-one
-getD-low (suc n) x (suc i) h = getD-low n (x / 2) i (omega arith) ∙ rw half-pow
-
 pub word-low : (n x : ℕ) → x < 2 ^ n → wordOf (lowBits n x) ≡ x
 unfolding lowBits wordOf
 word-low zero x h = sym (lt-one h)
@@ -135,14 +129,6 @@ low-above (suc k) hi lo = rw (block-odd, block-half) (ap (odd lo ∷_) (low-abov
 pub low-mod : (k x : ℕ) → lowBits k (x % 2 ^ k) ≡ lowBits k x
 low-mod k x = sym (low-above k (x / 2 ^ k) (x % 2 ^ k)) ∙ rw split
 
--- a number of k bits, and another above it
-pub low-cat : (k n lo hi : ℕ) → lo < 2 ^ k → lowBits (k + n) (hi * 2 ^ k + lo) ≡ lowBits k lo ++ lowBits n hi
-low-cat k n lo hi h = rw (low-add, low-above, high hi k h)
-
-pub low-one : (x : ℕ) → lowBits 1 (x % 2) ≡ odd x ∷ []
-unfolding lowBits
-low-one x = let e : x % 2 % 2 ≡ x % 2 = omega arith in rw e
-
 -- ---- `lo | (hi << f)` in a word of w bits
 
 -- a number of n bits above one of f bits
@@ -158,10 +144,6 @@ or-shl w f hi lo l h =
     let width : w ≡ j + f = omega arith in
     let shifted : (hi * 2 ^ f) % 2 ^ (j + f) ≡ (hi % 2 ^ j) * 2 ^ f = simp add-zero at (wide-mod j f hi 0 (pow-pos f)) in
     rw (width, shifted, or-shifted-r (hi % 2 ^ j) f lo h, wide-mod j f hi lo h)
-
--- where nothing is shifted out
-pub or-shl-fits : (w f n hi lo : ℕ) → f + n ≤ w → lo < 2 ^ f → hi < 2 ^ n → bitOr lo ((hi * 2 ^ f) % 2 ^ w) ≡ hi * 2 ^ f + lo
-or-shl-fits w f n hi lo l h k = or-shl w f hi lo (omega arith) h ∙ mod-eq-of-lt (lt-of-lt-of-le (cat-lt f n hi lo h k) (pow-mono l))
 
 -- what of hi is shifted out of a word of f + (1 + n) bits
 pub shifted-out : (f n hi lo : ℕ) → lo < 2 ^ f → (hi * 2 ^ f + lo) / 2 ^ (f + (1 + n)) ≡ hi / 2 / 2 ^ n
