@@ -1,15 +1,14 @@
 -- A bitmap column block by block: what is packed and what is left make up the column. Assumes nothing.
 use Prim.Native.Nat.{ℕ, _+_, _*_, _/_, _≤_}
-use mathlib.Core.Path.{_≡_, refl, sym, ap, _∙_}
+use mathlib.Core.Path.{_≡_, sym, ap, _∙_}
 use mathlib.Core.Bool.{Bool, false}
-use mathlib.Core.List.{List, [], _∷_, _++_, map, map-append, append-assoc, append-nil}
+use mathlib.Core.List.{List, [], _++_, map, map-append, append-assoc, append-nil}
 use native.Mathlib.Omega.{arith}
 use lib.ListN.{length, length-append, length-map}
 use native.Mathlib.Nat.{zero-add}
-use Rattle.format.specs.Bytes.{table, bytesFor, packed, toLe}
+use Rattle.format.specs.Bytes.{table, bytesFor, packed}
 use Rattle.format.specs.Slots.{picksFrom, All}
 use Rattle.format.proofs.SlotLaws.{picks-none}
-use Rattle.format.specs.Put.{Wrote}
 use Rattle.format.proofs.Measure.{length-packed}
 use Rattle.predicate.specs.declared.Cursor.{Cursor}
 use Rattle.predicate.specs.declared.Selection.{Selection}
@@ -17,7 +16,7 @@ use Rattle.predicate.specs.Selection.{picksOn}
 use Rattle.predicate.specs.Blocks.{Gives}
 use Rattle.bitmaps.specs.declared.Bitmap.{Bitmap}
 use Rattle.bitmaps.specs.Push.{Packs, Adds}
-use Rattle.bitmaps.proofs.PushLaws.{packs-none, packs-room, packs-done, flush-room}
+use Rattle.bitmaps.proofs.PushLaws.{packs-none, packs-room}
 
 -- of the bits q of the rows all, those of the rows left are still to be packed
 pub record Walked (q : ℕ → Bool) (all : List ℕ) (old : List ℕ) (at : ℕ) (new : List ℕ) (to : Bitmap) (left : List ℕ) : Type 0 where

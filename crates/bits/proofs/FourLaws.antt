@@ -43,25 +43,27 @@ compress-cat k n value mask =
 
 -- ---- one entry, put below what was gathered: no bit is shifted out of the word
 
-module _ {table counts : List ℕ} (rule : Table fourOf table) (counted : Table countOf counts) (out k : ℕ) (small : out < 2 ^ 60) (l : k < 256) where
+module _ (k : ℕ) (l : k < 256) where
   count-le : countOf k ≤ 4
   count-le = ones-le 4 (k / 16) (omega arith)
 
-  pub shift-lt : getD counts k 0 < 64
-  shift-lt = omega (arith, counted .entry k l, count-le)
+  pub shift-lt : {counts : List ℕ} → Table countOf counts → getD counts k 0 < 64
+  shift-lt counted = omega (arith, counted .entry k l, count-le)
 
-  pub entry-lt : getD table k 0 < 16
-  entry-lt = rw (rule .entry k l) (compress-fits 4 (k % 16) (k / 16))
+  pub entry-lt : {table : List ℕ} → Table fourOf table → getD table k 0 < 16
+  entry-lt rule = rw (rule .entry k l) (compress-fits 4 (k % 16) (k / 16))
 
-  pub added : (out * 2 ^ getD counts k 0) % 2 ^ 64 + getD table k 0 ≡ out * 2 ^ countOf k + fourOf k
-  added = rw (rule .entry k l, counted .entry k l, shl-exact 60 (countOf k) 64 small (omega (arith, count-le)))
+  module _ (out : ℕ) (small : out < 2 ^ 60) where
+    pub added : {table counts : List ℕ} → Table fourOf table → Table countOf counts
+        → (out * 2 ^ getD counts k 0) % 2 ^ 64 + getD table k 0 ≡ out * 2 ^ countOf k + fourOf k
+    added rule counted = rw (rule .entry k l, counted .entry k l, shl-exact 60 (countOf k) 64 small (omega (arith, count-le)))
 
-  pub added-lt : out * 2 ^ countOf k + fourOf k < 2 ^ 64
-  added-lt =
-      let whole : k / 16 % 16 ≡ k / 16 = omega arith in
-      let low : fourOf k < 2 ^ countOf k = rw whole at (compress-lt 4 (k % 16) (k / 16)) in
-      let width : countOf k + 60 ≤ 64 = omega (arith, count-le) in
-      lt-of-lt-of-le (cat-lt (countOf k) 60 out (fourOf k) low small) (pow-mono width)
+    pub added-lt : out * 2 ^ countOf k + fourOf k < 2 ^ 64
+    added-lt =
+        let whole : k / 16 % 16 ≡ k / 16 = omega arith in
+        let low : fourOf k < 2 ^ countOf k = rw whole at (compress-lt 4 (k % 16) (k / 16)) in
+        let width : countOf k + 60 ≤ 64 = omega (arith, count-le) in
+        lt-of-lt-of-le (cat-lt (countOf k) 60 out (fourOf k) low small) (pow-mono width)
 
 -- ---- where the entries stand, in all bytes at once
 

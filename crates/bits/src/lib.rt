@@ -5,9 +5,6 @@ ghost use Rattle.format.specs.Words.{compress};
 ghost use Rattle.bits.specs.Fours.{fourOf, countOf, Table};
 ghost use Rattle.bits.specs.Pack.{Pushable, pushed, packing};
 
-// A mask with every bit of a word set.
-const ALL: u64 = 0xFFFF_FFFF_FFFF_FFFF;
-
 // A number for each mask and value of four bits, at mask * 16 + value, so a row for each mask: the value compressed by the mask.
 const FOURS: [u8; 256] = *b"\
     \x00\x00\x00\x00\x00\x00\x00\x00\x00\x00\x00\x00\x00\x00\x00\x00\
@@ -77,8 +74,8 @@ fn add_four(table: &[u8; 256], counts: &[u8; 256], out: u64, place: usize) -> u6
     (out << counts[place]) + table[place] as u64
 }
 
-// `compress` by tables that its caller lends: a constant is laid out anew at each call of the function that names it, 32 stores for these two. By fours
-// from the highest. Their places are made for all bytes at once: `highs` and `lows` have in each byte the mask's four above the value's.
+// `compress` by tables that its caller lends: a constant is laid out anew at each call of the function that names it, some thirty stores for these two.
+// By fours from the highest; their places are made for all bytes at once: `highs` and `lows` have in each byte the mask's four above the value's.
 pub fn compress_by(table: &[u8; 256], counts: &[u8; 256], value: u64, mask: u64) -> u64
     requires { ⌜ Table fourOf (now table) × Table countOf (now counts) ⌝ }
     ensures { λ r. ⌜ r ≡ compress 64 value mask ⌝ }
@@ -103,6 +100,9 @@ pub fn compress(value: u64, mask: u64) -> u64
     let counts = counts();
     compress_by(&table, &counts, value, mask)
 }
+
+// Every bit of a word.
+const ALL: u64 = 0xFFFF_FFFF_FFFF_FFFF;
 
 // The mask of the n lowest bits of a word.
 pub fn low_ones(n: u32) -> u64

@@ -1,13 +1,10 @@
 -- `bitmaps::filter_bits_blocks` meets its contract. The invariant: the cursor is in step, and the bits of the rows before it are packed. Assumes nothing.
-use Prim.Native.Nat.{_+_, _-_, _*_, _≤_}
-use mathlib.Core.Path.{_≡_, refl, sym}
-use mathlib.Core.List.{map}
+use Prim.Native.Nat.{_-_}
+use mathlib.Core.Path.{refl, sym}
 use native.Mathlib.Omega.{arith}
 use borrow.Author.Needs.{needs}
-use lib.ListN.{length}
-use Rattle.format.specs.Bytes.{bytesAt, packed}
-use Rattle.format.specs.Rows.{setRows}
-use Rattle.format.specs.Slots.{picksFrom, countUp}
+use Rattle.format.specs.Bytes.{packed}
+use Rattle.format.specs.Slots.{picksFrom}
 use Rattle.format.proofs.Numbers.{length-bytes}
 use Rattle.format.proofs.Put.{same-size}
 use Rattle.format.proofs.SlotLaws.{length-up}

@@ -1,6 +1,6 @@
 -- `bitmaps::push_rows` meets its contract. The invariant: the bits of the rows of the entries passed are added. Assumes nothing.
 use Prim.Native.Nat.{_-_, _≤_}
-use mathlib.Core.Path.{_≡_, ap}
+use mathlib.Core.Path.{_≡_}
 use mathlib.Core.List.{map}
 use native.Mathlib.Nat.{sub-self}
 use native.Mathlib.Omega.{arith}
