@@ -25,7 +25,7 @@ const FOURS: [u8; 256] = *b"\
     \x00\x01\x02\x03\x04\x05\x06\x07\x08\x09\x0a\x0b\x0c\x0d\x0e\x0f\
 ";
 
-// At the same places: how many bits that is, as many as the mask has. A count for each mask would do, but then each place is divided by 16: .21 ns a
+// At the same places: how many bits that is, as many as the mask has. A count for each mask would do, but then each place is divided by 16: .20 ns a
 // row for .18, in a model of the bitmap's loop.
 const COUNTS: [u8; 256] = *b"\
     \x00\x00\x00\x00\x00\x00\x00\x00\x00\x00\x00\x00\x00\x00\x00\x00\

@@ -1,4 +1,4 @@
-// Runs the specification's cases (docs/FORMAT.md) of masks and words and prints what each gives: P3 to P7, and by what a bitmap of 128 slots goes.
+// Runs the specification's cases (docs/FORMAT.md) of masks and words and prints what each gives: P3 to P7, whole words compressed, and by what a bitmap of 128 slots goes.
 use format::Prepared;
 use format::Route;
 
@@ -81,14 +81,27 @@ fn bitmap_goes(name: &[u8], count: usize, stored: bool) {
     }
 }
 
+// What a mask gathers of a value.
+fn compresses(name: &[u8], value: u64, mask: u64) {
+    io::write_all(1, name);
+    io::write_all(1, b": ");
+    io::print_decimal(1, bits::compress(value, mask));
+    io::write_all(1, b"\n");
+}
+
 fn main() {
     prepares(b"P3", 5, 0x0F);
     prepares(b"P4", 6, 0x3E);
     prepares(b"P5", 0, 0x00);
     prepares(b"P6", 3, 0x07);
-    io::write_all(1, b"P7: ");
-    io::print_decimal(1, bits::compress(0xB6, 0x5A));
-    io::write_all(1, b"\n");
+    compresses(b"P7", 0xB6, 0x5A);
+    // The fours of this value are the numbers 15 to 0, so each answer can be read off: FDB97531 and ECA86420 (hex), all, the two ends, none.
+    let falling: u64 = 0xFEDC_BA98_7654_3210;
+    compresses(b"high fours", falling, 0xF0F0_F0F0_F0F0_F0F0);
+    compresses(b"low fours", falling, 0x0F0F_0F0F_0F0F_0F0F);
+    compresses(b"all bits", falling, 0xFFFF_FFFF_FFFF_FFFF);
+    compresses(b"both ends", falling, 0x8000_0000_0000_0001);
+    compresses(b"no bit", falling, 0);
     bitmap_goes(b"126 of 128", 126, false);
     bitmap_goes(b"125 of 128", 125, false);
     bitmap_goes(b"2 of 128, stored", 2, true);

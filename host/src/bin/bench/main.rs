@@ -1,7 +1,7 @@
 //! The port beside filter.rs, on the same packs, in one process: processor time of one thread in ns for each journal row, the least of
-//! many calls. Needs the feature `port`.
+//! many calls, and of N rounds through all columns, for a shared machine is slow for seconds at a time. Needs the feature `port`.
 //!
-//!     bench [--markdown] [--native PROGRAM] [COLUMN ...]
+//!     bench [--markdown] [--rounds N] [--native PROGRAM] [COLUMN ...]
 //!     bench --filter-only [COLUMN ...]
 //!
 //! filter      filter.rs's `filter` on arrays built beforehand
@@ -112,7 +112,33 @@ struct Timed {
     cells: Vec<Vec<Cell>>,
 }
 
+/// The lesser of two times of one thing.
+fn lesser(a: &mut f64, b: f64) {
+    *a = a.min(b);
+}
+
+impl Cell {
+    fn lesser(&mut self, other: Cell) {
+        lesser(&mut self.filter, other.filter);
+        lesser(&mut self.whole, other.whole);
+        lesser(&mut self.prepare, other.prepare);
+        lesser(&mut self.memcpy, other.memcpy);
+        if let (Some(a), Some(b)) = (&mut self.native, other.native) {
+            lesser(a, b);
+        }
+        if let (Some(a), Some(b)) = (&mut self.plain, other.plain) {
+            lesser(&mut a.alone, b.alone);
+            lesser(&mut a.behind_validation, b.behind_validation);
+        }
+    }
+}
+
 impl Timed {
+    fn lesser(&mut self, other: Timed) {
+        lesser(&mut self.validation, other.validation);
+        lesser(&mut self.check, other.check);
+        self.cells.iter_mut().flatten().zip(other.cells.into_iter().flatten()).for_each(|(a, b)| a.lesser(b));
+    }
     /// What the port's time is held to.
     fn both(&self, cell: &Cell) -> f64 {
         cell.plain.as_ref().map_or(self.validation + cell.filter, |plain| plain.behind_validation)
@@ -259,27 +285,42 @@ fn print_all(markdown: bool, columns: &[Timed]) {
     }
 }
 
+/// Takes a word and the one behind it out of the arguments: an option's value.
+fn option(words: &mut Vec<String>, name: &str) -> Option<String> {
+    let at = words.iter().position(|word| word == name)?;
+    words.remove(at);
+    if at == words.len() {
+        eprintln!("{name} needs a value");
+        exit(2);
+    }
+    Some(words.remove(at))
+}
+
+fn flag(words: &mut Vec<String>, name: &str) -> bool {
+    let at = words.iter().position(|word| word == name);
+    at.map(|at| words.remove(at)).is_some()
+}
+
 fn main() {
     let mut words: Vec<String> = std::env::args().skip(1).collect();
-    let mut flag = |name: &str| words.iter().position(|word| word == name).map(|at| (words.remove(at), at).1);
-    let markdown = flag("--markdown").is_some();
-    let filter_only = flag("--filter-only").is_some();
-    let native = flag("--native").map(|at| {
-        if at == words.len() {
-            eprintln!("--native needs the path of a program");
-            exit(2);
-        }
-        words.remove(at)
-    });
+    let markdown = flag(&mut words, "--markdown");
+    let filter_only = flag(&mut words, "--filter-only");
+    let native = option(&mut words, "--native");
+    let rounds: usize = option(&mut words, "--rounds").map_or(1, |word| word.parse().unwrap_or(0));
+    if rounds == 0 {
+        eprintln!("--rounds needs a number from 1 on");
+        exit(2);
+    }
     if let Some(word) = words.iter().find(|word| COLUMNS.iter().all(|column| column.0 != **word)) {
         eprintln!("no column {word}");
         exit(2);
     }
     reuse_memory();
-    let named = COLUMNS.iter().filter(|column| words.is_empty() || words.iter().any(|name| *name == column.0));
+    let named: Vec<Column> =
+        COLUMNS.iter().filter(|column| words.is_empty() || words.iter().any(|name| *name == column.0)).copied().collect();
     if filter_only {
         for column in named {
-            let (journal, mut r) = make_column(*column);
+            let (journal, mut r) = make_column(column);
             let times = by_masks(&mut r, column.1, |mask| time_filter(mask, &journal, column.1));
             times.iter().flatten().for_each(|ns| println!("{ns}"));
         }
@@ -287,10 +328,17 @@ fn main() {
     }
     // two nodes, one below the other, each with a child of as many rows as a node may have
     let mut room = Room { scratch: vec![0; 2 * ROW_LIMIT as usize / 8], output: vec![0; PACK_LIMIT] };
-    let mut timed = vec![];
-    for column in named {
-        eprintln!("{}", column.0);
-        timed.push(time_column(&mut room, native.as_ref(), *column));
+    let mut timed: Vec<Timed> = vec![];
+    for round in 0..rounds {
+        for (i, column) in named.iter().enumerate() {
+            eprintln!("{}", column.0);
+            let new = time_column(&mut room, native.as_ref(), *column);
+            if round == 0 {
+                timed.push(new);
+            } else {
+                timed[i].lesser(new);
+            }
+        }
     }
     print_all(markdown, &timed);
 }
