@@ -218,7 +218,7 @@ pub fn filter_bits_compress(
             filled: 0,
         },
     };
-    // Made once and lent. Made in `compress`, for each word, they cost a column of bits at 10 to 81 %, random, 27 to 42 % of its time.
+    // Made once and lent: made in `compress`, for each word, a column of bits at 10 to 81 %, random, took 35 to 47 % longer.
     let table = bits::fours();
     let counts = bits::counts();
     let mut w: usize = 0;
