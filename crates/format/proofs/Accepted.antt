@@ -125,6 +125,19 @@ shares-number b i s = go (kind b i) refl s
     go Struct e is.Shares.struct = rw (eq-eqb _ 10 (number-kind b i Struct e (λ q. let z : ◌≡◌ {A = ℕ} 10 0 = ap number_of q in omega arith)))
     go Union e is.Shares.union =
         rw (eq-eqb _ 11 (number-kind b i Union e (λ q. let z : ◌≡◌ {A = ℕ} 11 0 = ap number_of q in omega arith))) (or-true (eqb (kind_number b i) 10))
+    go Bits e w = elim w [ ]
+    go Native e w = elim w [ ]
+    go Fixed e w = elim w [ ]
+    go Bytes32 e w = elim w [ ]
+    go Bytes64 e w = elim w [ ]
+    go Views e w = elim w [ ]
+    go Lists32 e w = elim w [ ]
+    go Lists64 e w = elim w [ ]
+    go Runs e w = elim w [ ]
+    go Dictionary e w = elim w [ ]
+    go Nested32 e w = elim w [ ]
+    go Nested64 e w = elim w [ ]
+    go Unknown e w = elim w [ ]
 
 -- a kind that allows its param is known, and allows none above 1,024
 known_of : (k : Kind) (q : ℕ) → (layout k).params q ≡ true → k ≡ Unknown → ⊥
@@ -484,6 +497,19 @@ module _ (b : List ℕ) (a : Accepted b) where
               inside = λ r l. offset-below 8 _ bad (rows b i - r) r (omega arith);
               lie = rw e at (first-inside b i h a.buffers);
             }
+        go w Bits e s = elim s [ ]
+        go w Native e s = elim s [ ]
+        go w Fixed e s = elim s [ ]
+        go w Bytes32 e s = elim s [ ]
+        go w Bytes64 e s = elim s [ ]
+        go w Views e s = elim s [ ]
+        go w Lists32 e s = elim s [ ]
+        go w Lists64 e s = elim s [ ]
+        go w Runs e s = elim s [ ]
+        go w Struct e s = elim s [ ]
+        go w Union e s = elim s [ ]
+        go w Dictionary e s = elim s [ ]
+        go w Unknown e s = elim s [ ]
 
     -- kind 6
     module _ (r : ℕ) (f : bad_view b i r ≡ false) where

@@ -28,10 +28,22 @@ threshold-is = refl
 div_is : (x y : Float) → T (positive x) → T (positive y) → div binary64 x y ≡ near (num x * den y) (num y * den x)
 unfolding div
 div_is (fin false m e) (fin false n d) p q = rw (ne_eqb n 0 (ne_of_gt (ltb→lt 0 n q)))
+div_is lib.Ieee.nan y p q = elim p [ ]
+div_is (lib.Ieee.inf _) y p q = elim p [ ]
+div_is (fin false m e) lib.Ieee.nan p q = elim q [ ]
+div_is (fin false m e) (lib.Ieee.inf _) p q = elim q [ ]
+div_is (fin false m e) (fin true n d) p q = elim q [ ]
+div_is (fin true m e) y p q = elim p [ ]
 
 lt-is : (x y : Float) → T (positive x) → T (positive y) → lt x y ≡ ltb (num x * den y) (num y * den x)
 unfolding lt
 lt-is (fin false m e) (fin false n d) p q = refl
+lt-is lib.Ieee.nan y p q = elim p [ ]
+lt-is (lib.Ieee.inf _) y p q = elim p [ ]
+lt-is (fin false m e) lib.Ieee.nan p q = elim q [ ]
+lt-is (fin false m e) (lib.Ieee.inf _) p q = elim q [ ]
+lt-is (fin false m e) (fin true n d) p q = elim q [ ]
+lt-is (fin true m e) y p q = elim p [ ]
 
 lt_no : (x y : Float) → T (positive x) → T (positive y) → T (le y x) → lt x y ≡ false
 lt_no x y p q h = lt-is x y p q ∙ le-ltb _ _ (le→cross y x q p h)
