@@ -2,12 +2,7 @@
 use Rattle.std.proofs.Common.{refl, arith, rules}
 use Rattle.format.proofs.Put.{whole, stored, done}
 use Rattle.format.proofs.Numbers.{bytes-none, bytes-more}
-use Rattle.words.proofs.move1.Statement.{statement}
-use Rattle.words.proofs.move1.Tie as tie
+use Rattle.words.proofs.move1.Goals as goal
 
-returns : tie.Need-returns
+pub returns : goal.returns
 returns c = done (stored (whole refl refl) (bytes-more _ _ _ _ _ (omega arith) refl refl) refl) (bytes-none _ _ _ refl) refl
-
-pub move1-spec : {M : Type 1} → statement M
-move1-spec =
-    tie.close (tie.spec (λ c. search rules) (λ c. search rules) (λ c. search rules) (λ c. search rules) returns)
