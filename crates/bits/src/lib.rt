@@ -115,21 +115,21 @@ pub fn low_ones(n: u32) -> u64
 }
 
 // The bits that wait for a full word: the low `filled` of `current`, which is zero above them.
-#[derive(Drop)]
+#[derive(Clone, Copy)]
 pub struct Packer {
     pub current: u64,
     pub filled: u32,
 }
 
 // What a push hands back: the word that it filled, or nothing yet.
-#[derive(Drop)]
+#[derive(Clone, Copy)]
 pub enum Pushed {
     Word(u64),
     Nothing,
 }
 
 // The packer after bits were added, and what is handed back.
-#[derive(Drop)]
+#[derive(Clone, Copy)]
 pub struct Packing {
     pub packer: Packer,
     pub word: Pushed,

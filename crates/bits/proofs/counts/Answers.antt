@@ -3,12 +3,8 @@ use mathlib.Core.Path.{refl}
 use lib.Count.{ones}
 use Rattle.bits.specs.Fours.{count_of}
 use Rattle.bits.proofs.Ruled.{table-holds}
-use Rattle.bits.proofs.counts.Statement.{statement}
-use Rattle.bits.proofs.counts.Tie as tie
+use Rattle.bits.proofs.counts.Goals as goal
 
-returns : tie.Need-returns
+pub returns : goal.returns
 unfolding ones
 returns c = table-holds count_of _ refl refl
-
-pub counts-spec : {M : Type 1} → statement M
-counts-spec = tie.close (tie.spec returns)

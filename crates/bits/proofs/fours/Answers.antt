@@ -3,12 +3,8 @@ use mathlib.Core.Path.{refl}
 use Rattle.format.specs.Words.{low_bits, word_of, gather, compress}
 use Rattle.bits.specs.Fours.{four_of}
 use Rattle.bits.proofs.Ruled.{table-holds}
-use Rattle.bits.proofs.fours.Statement.{statement}
-use Rattle.bits.proofs.fours.Tie as tie
+use Rattle.bits.proofs.fours.Goals as goal
 
-returns : tie.Need-returns
+pub returns : goal.returns
 unfolding compress low_bits gather word_of
 returns c = table-holds four_of _ refl refl
-
-pub fours-spec : {M : Type 1} → statement M
-fours-spec = tie.close (tie.spec returns)
