@@ -18,7 +18,7 @@ use predicate::{Block, Cursor, Held, Selection};
 use slots::Bits;
 
 // A bitmap that is being written: the next place in the output, and the bits that wait for a full word.
-#[derive(Drop)]
+#[derive(Clone, Copy)]
 pub struct Bitmap {
     pub here: usize,
     pub packer: Packer,

@@ -14,7 +14,7 @@ use predicate::Selection;
 use slots::Bits;
 
 // Where a buffer starts, and where the body ends behind it.
-#[derive(Drop)]
+#[derive(Clone, Copy)]
 pub struct Placed {
     pub start: usize,
     pub next: usize,

@@ -5,14 +5,14 @@ ghost use Rattle.case_text.specs.Places.{name_end, part_end, line_end};
 ghost use Rattle.case_text.specs.Words.{Front, put_byte, put_number, put_again, put_word, read_byte, read_so_far, part_bytes};
 
 // How many bytes a part gave, and the place in the text behind it.
-#[derive(Drop)]
+#[derive(Clone, Copy)]
 pub struct Part {
     pub len: usize,
     pub next: usize,
 }
 
 // A part so far: its bytes, and the word that is being read, by its sign and its number.
-#[derive(Drop)]
+#[derive(Clone, Copy)]
 struct State {
     len: usize,
     sign: u8,

@@ -10,7 +10,7 @@ use predicate::{Cursor, Selection};
 use slots::Bits;
 
 // The next place in the output, and the cursor behind the rows taken.
-#[derive(Drop)]
+#[derive(Clone, Copy)]
 pub struct Taken {
     pub next: usize,
     pub cur: Cursor,

@@ -62,7 +62,7 @@ fn bad_view(s: &[u8], here: usize, kids: u32, buffers: usize) -> bool
 // Whether some of n views is wrong: the first that is ends the walk.
 pub fn bad_views(s: &[u8], at: usize, n: usize, kids: u32, buffers: usize) -> bool
     requires { (at + 16 * n ≤ length s.now) × DataBuffers s.now kids buffers }
-    ensures* { λ r. ⌜ r ≡ any_below (λ r. bad_view_at s.now kids buffers (at + 16 * r)) n ⌝ }
+    ensures { result ≡ any_below (λ r. bad_view_at s.now kids buffers (at + 16 * r)) n }
 {
     let mut i: usize = 0;
     while i < n {

@@ -5,7 +5,7 @@ ghost use Rattle.format.specs.Verdict.{row_limit};
 
 // A node's kind, with the width in bits of offsets where there are two. Lists32 and Lists64 are list views, Nested32 and Nested64 lists whose
 // child rows follow one another. Unknown is every number that is no kind.
-#[derive(Drop)]
+#[derive(Clone, Copy)]
 pub enum Kind {
     Bits,
     Native,
@@ -25,7 +25,7 @@ pub enum Kind {
 }
 
 // How a selection is walked.
-#[derive(Drop)]
+#[derive(Clone, Copy)]
 pub enum Route {
     None,
     All,
@@ -70,14 +70,14 @@ impl Route {
 }
 
 // The pack that a refusal names.
-#[derive(Drop)]
+#[derive(Clone, Copy)]
 pub enum Pack {
     Mask,
     Journal,
 }
 
 // What a call gives: kept rows, mask length, route and extract length; or the refusal's number and pack.
-#[derive(Drop)]
+#[derive(Clone, Copy)]
 pub enum Answer {
     Done {
         kept: u64,
@@ -92,7 +92,7 @@ pub enum Answer {
 }
 
 // What preparing a mask alone gives: kept rows, mask length and route; or the refusal's number and pack.
-#[derive(Drop)]
+#[derive(Clone, Copy)]
 pub enum Prepared {
     Ready { kept: u64, slots: u64, route: Route },
     Refused { number: u64, pack: Pack },

@@ -13,7 +13,7 @@ use spans::{first_offset, word_spans};
 pub mod chain;
 
 // Lists one below another, innermost first: of list k at 2 k the place of its first offset, and behind that an offset's bytes. Room for 8, as deep as a pack may be.
-#[derive(Drop)]
+#[derive(Clone, Copy)]
 pub struct Levels {
     pub at: [usize; 16],
     pub count: usize,

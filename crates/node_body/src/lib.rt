@@ -17,7 +17,7 @@ use predicate::Selection;
 use slots::Bits;
 
 // Where a node's buffers start, where the body ends behind them, how many data bytes a byte column has, and how many of the kept rows are null.
-#[derive(Drop)]
+#[derive(Clone, Copy)]
 pub struct Buffers {
     pub validity: usize,
     pub first: usize,

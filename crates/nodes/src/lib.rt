@@ -19,7 +19,7 @@ use slots::Bits;
 pub const NO_BITMAP: usize = 0xFFFF_FFFF;
 
 // Where the bitmap of a node's kept rows was put, and how many of these rows are null.
-#[derive(Drop)]
+#[derive(Clone, Copy)]
 pub struct Nulls {
     pub placed: Placed,
     pub count: usize,

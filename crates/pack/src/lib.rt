@@ -4,7 +4,7 @@ pub mod read;
 pub mod tree;
 
 // The trailer: the last 16 bytes.
-#[derive(Drop)]
+#[derive(Clone, Copy)]
 pub struct Trailer {
     pub table_start: u32,
     pub node_count: u32,
@@ -13,7 +13,7 @@ pub struct Trailer {
 }
 
 // A node: its ten fields, in order.
-#[derive(Drop)]
+#[derive(Clone, Copy)]
 pub struct Node {
     pub kind: u32,
     pub param: u32,
@@ -28,7 +28,7 @@ pub struct Node {
 }
 
 // Each node's parent and depth (the root's are 0 and 1), and how many nodes are still open after the last.
-#[derive(Drop)]
+#[derive(Clone, Copy)]
 pub struct Walk {
     pub parents: [u32; 64],
     pub depths: [u32; 64],

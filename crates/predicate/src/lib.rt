@@ -8,14 +8,14 @@ use format::Route;
 use slots::Bits;
 
 // How many entries of the lent list are stored; or none are, and the mask is read each time.
-#[derive(Drop)]
+#[derive(Clone, Copy)]
 pub enum Held {
     Stored(usize),
     Lazy,
 }
 
 // Which rows are kept: none, all of so many, or those of runs or of row numbers.
-#[derive(Drop)]
+#[derive(Clone, Copy)]
 pub enum Selection {
     Nothing,
     Everything(usize),
@@ -24,14 +24,14 @@ pub enum Selection {
 }
 
 // How far a selection is walked: rows below `place` are done, and entries below `index` of a stored list.
-#[derive(Drop)]
+#[derive(Clone, Copy)]
 pub struct Cursor {
     pub place: usize,
     pub index: usize,
 }
 
 // The next kept rows, and the cursor after them: a run [a, e); the rows base + k for the set bits k of a word; entries i to j of the stored list.
-#[derive(Drop)]
+#[derive(Clone, Copy)]
 pub enum Block {
     Run(usize, usize, Cursor),
     Word(usize, u64, Cursor),
@@ -147,7 +147,7 @@ fn word_block(s: &[u8], b: Bits, place: usize, w: usize, x: u64, index: usize) -
 }
 
 // Rows from..to; none where the two are equal.
-#[derive(Drop)]
+#[derive(Clone, Copy)]
 pub struct Rows {
     pub from: usize,
     pub to: usize,

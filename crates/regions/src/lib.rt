@@ -11,7 +11,7 @@ use predicate::{Held, Selection};
 use slots::Bits;
 
 // A selection of a node's rows; its bits stand in the mask or in scratch.
-#[derive(Drop)]
+#[derive(Clone, Copy)]
 pub struct Told {
     pub sel: Selection,
     pub bits: Bits,

@@ -13,7 +13,7 @@ use nesting::table::least;
 use slots::Bits;
 
 // At most eight runs as a byte, the first run lowest, and where the run after them starts.
-#[derive(Drop)]
+#[derive(Clone, Copy)]
 struct Gathered {
     byte: u8,
     next: usize,

@@ -7,7 +7,7 @@ ghost use Rattle.scan.specs.Asked.{Ones, Blank, any_in, first_run};
 use slots::Bits;
 
 // The next maximal run of picked slots, [start, end).
-#[derive(Drop)]
+#[derive(Clone, Copy)]
 pub enum Run {
     Span(usize, usize),
     End,

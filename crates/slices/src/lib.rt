@@ -8,7 +8,7 @@ use scan::Run;
 use slots::Bits;
 
 // What a scan finds: the next run, and the slot to go on from.
-#[derive(Drop)]
+#[derive(Clone, Copy)]
 pub struct Step {
     pub run: Run,
     pub at: usize,

@@ -5,7 +5,7 @@ ghost use Rattle.format.specs.Slots.{after, word_from, picks_from};
 ghost use Rattle.slots.specs.Source.{both_set, slot_of, word_at, Lies, ByteWords};
 
 // Where a source's bits stand in a slice: places are in bytes, skip and len in slots.
-#[derive(Drop)]
+#[derive(Clone, Copy)]
 pub struct Bits {
     pub values_at: usize,
     pub has_validity: bool,

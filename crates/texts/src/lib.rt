@@ -9,7 +9,7 @@ ghost use Rattle.append.specs.Cells.{Among};
 ghost use Rattle.texts.specs.Texts.{offset, start_in, size, sizes_of, texts_of, ends_from, total_of, Offsets, Texts};
 
 // Where the next write goes, and where the last row ends.
-#[derive(Drop)]
+#[derive(Clone, Copy)]
 pub struct Ended {
     pub next: usize,
     pub sum: usize,

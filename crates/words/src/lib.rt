@@ -146,7 +146,7 @@ pub fn move32(out: &mut [u8], at: usize, src: &[u8], from: usize) -> usize
 }
 
 // The lowest run of set bits of a word: bits `from` up to `to`, and the word without them.
-#[derive(Drop)]
+#[derive(Clone, Copy)]
 pub struct LowRun {
     pub from: usize,
     pub to: usize,
