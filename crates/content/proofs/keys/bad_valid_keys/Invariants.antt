@@ -1,0 +1,14 @@
+-- What the loops of `keys::bad_valid_keys` keep, and their measures. Assumes nothing.
+use Rattle.std.proofs.Common.{◌≡◌, ◌-◌, ◌≤◌, sym, refl, ◌∙◌, rules}
+use borrow.Author.Tests.{not-true}
+use Rattle.content.proofs.Fold.{any-end, any-more, any-start}
+use Rattle.content.proofs.Tests.{none-valid, number-inside, valid-is}
+use Rattle.content.specs.Numbers.{bad_valid_key}
+use Rattle.format.specs.Bytes.{any_below}
+use Rattle.content.proofs.keys.bad_valid_keys.Given as goal
+
+abbrev pub invariant-loop-i : goal.invariant-loop-i
+invariant-loop-i l = (l.i ≤ l.n) × (l.bad ≡ any_below (bad_valid_key l.w l.s l.at l.limit l.bits l.k) l.i)
+
+abbrev pub decreases-loop-i : goal.decreases-loop-i
+decreases-loop-i l = l.n - l.i

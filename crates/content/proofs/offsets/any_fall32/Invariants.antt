@@ -1,0 +1,12 @@
+-- What the loops of `offsets::any_fall32` keep, and their measures. Assumes nothing.
+use Rattle.std.proofs.Common.{◌-◌, ◌^◌, ◌≤◌, refl, arith, rules}
+use Rattle.content.proofs.Signs.{Flagged, flag-end, flag-start, number-first, turned_more}
+use Rattle.content.specs.Numbers.{falls, number}
+use Rattle.format.specs.Bytes.{negative}
+use Rattle.content.proofs.offsets.any_fall32.Given as goal
+
+abbrev pub invariant-loop-i : goal.invariant-loop-i
+invariant-loop-i l = (l.i ≤ l.n) × Flagged 31 (number 4 l.s l.at) (falls 4 l.s l.at) l.bad l.i
+
+abbrev pub decreases-loop-i : goal.decreases-loop-i
+decreases-loop-i l = l.n - l.i

@@ -1,0 +1,12 @@
+-- What the loops of `runs::any_stall64` keep, and their measures. Assumes nothing.
+use Rattle.std.proofs.Common.{◌-◌, ◌^◌, ◌≤◌, refl, arith, rules}
+use Rattle.content.proofs.Signs.{Signs, number-first, signs-end, signs-start, stall-more}
+use Rattle.content.specs.Numbers.{number, stalls}
+use Rattle.format.specs.Bytes.{negative}
+use Rattle.content.proofs.runs.any_stall64.Given as goal
+
+abbrev pub invariant-loop-i : goal.invariant-loop-i
+invariant-loop-i l = (l.i ≤ l.n) × Signs 63 (number 8 l.s l.at) (stalls 8 l.s l.at) l.top l.i
+
+abbrev pub decreases-loop-i : goal.decreases-loop-i
+decreases-loop-i l = l.n - l.i
