@@ -1,0 +1,14 @@
+-- `copies::pair32` meets its contract: two moves that overlap. Assumes nothing.
+use Prim.Native.Nat.{◌-◌}
+use mathlib.Core.Path.{ap}
+use native.Mathlib.Omega.{arith}
+use Rattle.format.specs.Bytes.{bytes_at}
+use Rattle.format.proofs.Put.{named}
+use Rattle.copies.proofs.Overlap.{overlap}
+use borrow.Author.Rules.{rules}
+use Rattle.copies.proofs.pair32.Goals as goal
+
+pub returns : goal.returns
+returns c =
+    let a = c.args in
+    named (overlap a.src.now a.from 32 (a.n - 32) 32 (omega arith) (omega arith) (omega arith) c.move32.ensures c.move32-2.ensures) (ap (bytes_at _ _) (omega arith))
