@@ -1,0 +1,17 @@
+-- What the loops of `count` keep, and their measures. Assumes nothing.
+use Prim.Native.Nat.{◌+◌, ◌*◌, ◌≤◌, ◌-◌}
+use mathlib.Core.Logic.{⊎_elim}
+use mathlib.Core.Path.{◌≡◌, refl, ◌∙◌}
+use native.Mathlib.Omega.{arith}
+use borrow.Author.Rules.{rules}
+use lib.Count.{ones}
+use Rattle.slots.specs.Source.{slot_of, word_at}
+use Rattle.slots.proofs.Reading.{slots-picks}
+use Rattle.slots.proofs.Counting.{Counted, counted, counted-more, most}
+use Rattle.slots.proofs.count.Given as goal
+
+abbrev pub invariant-loop-w : goal.invariant-loop-w
+invariant-loop-w l = (64 * l.w ≤ l.len + 63) × Counted (slot_of l.s l.b) l.n l.w
+
+abbrev pub decreases-loop-w : goal.decreases-loop-w
+decreases-loop-w l = l.len + 64 - 64 * l.w
