@@ -1,0 +1,11 @@
+-- What the loops of `gather_list8` keep, and their measures. Assumes nothing.
+use Rattle.std.proofs.Common.{◌-◌, arith}
+use Rattle.format.proofs.Put.{kept}
+use Rattle.append.proofs.CellLaws.{Listing, list_all, list-fits, list-needs, list-next, list_done}
+use Rattle.gather.proofs.gather_list8.Given as goal
+
+abbrev pub invariant-loop-k : goal.invariant-loop-k
+invariant-loop-k l = Listing 8 l.src l.first l.list l.i l.j l.initial.out l.at l.out l.here l.k
+
+abbrev pub decreases-loop-k : goal.decreases-loop-k
+decreases-loop-k l = l.j - l.k

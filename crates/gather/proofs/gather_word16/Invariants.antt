@@ -1,0 +1,11 @@
+-- What the loops of `gather_word16` keep, and their measures. Assumes nothing.
+use Rattle.std.proofs.Common.{arith, rules}
+use Rattle.format.proofs.Put.{kept}
+use Rattle.append.proofs.CellLaws.{Picking, pick_all, pick-row, pick-fits, pick-needs, pick_less, pick_more, pick-done}
+use Rattle.gather.proofs.gather_word16.Given as goal
+
+abbrev pub invariant-loop-rest : goal.invariant-loop-rest
+invariant-loop-rest l = Picking 16 l.src l.first l.base l.word l.initial.out l.at l.out l.here l.rest
+
+abbrev pub decreases-loop-rest : goal.decreases-loop-rest
+decreases-loop-rest l = l.rest
