@@ -1,0 +1,19 @@
+-- What the loops of `offsets_list64` keep, and their measures. Assumes nothing.
+use Rattle.std.proofs.Common.{◌≡◌, ◌+◌, ◌-◌, ◌*◌, ◌^◌, ◌<◌, ◌≤◌, ◌∷◌, length, get_or, refl, ap, arith, rules}
+use Rattle.format.specs.Bytes.{bytes_at}
+use Rattle.format.proofs.Numbers.{bytes-none}
+use Rattle.format.proofs.RowLaws.{list-more}
+use Rattle.append.specs.Cells.{Among}
+use Rattle.texts.specs.Texts.{offset, Offsets}
+use Rattle.append.proofs.CellLaws.{among-others}
+use Rattle.texts.proofs.TextLaws.{offset-fits, offset-rises, Ending, begins, end_fits, end-room, turns, ended, same}
+use Rattle.texts.proofs.offsets_list64.Given as goal
+
+abbrev pub invariant-loop-k : goal.invariant-loop-k
+invariant-loop-k l =
+    (l.k ≤ l.j)
+    × Among (Offsets 8 l.src l.first) (bytes_at l.list l.k (l.j - l.k))
+    × Ending 8 (offset 8 l.src l.first) l.sum (bytes_at l.list l.i (l.j - l.i)) l.initial.out l.at l.out l.here l.end (bytes_at l.list l.k (l.j - l.k))
+
+abbrev pub decreases-loop-k : goal.decreases-loop-k
+decreases-loop-k l = l.j - l.k

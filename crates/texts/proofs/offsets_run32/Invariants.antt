@@ -1,0 +1,17 @@
+-- What the loops of `offsets_run32` keep, and their measures. Assumes nothing.
+use Rattle.std.proofs.Common.{◌≡◌, ◌+◌, ◌-◌, ◌≤◌, ◌∷◌, refl, arith, rules}
+use Rattle.format.specs.Slots.{count_up}
+use Rattle.format.proofs.RowLaws.{up_none, up_more}
+use Rattle.texts.specs.Texts.{offset, size}
+use Rattle.texts.proofs.TextLaws.{run-rises, run_more, Ending, begins, end_fits, end-room, turns, ended, same}
+use Rattle.texts.proofs.offsets_run32.Given as goal
+
+abbrev pub invariant-loop-row : goal.invariant-loop-row
+invariant-loop-row l =
+    (l.a ≤ l.row)
+    × (l.row ≤ l.e)
+    × (l.last ≡ offset 4 l.src l.first l.row - offset 4 l.src l.first l.a + l.sum)
+    × Ending 4 (offset 4 l.src l.first) l.sum (count_up (l.e - l.a) l.a) l.initial.out l.at l.out l.here l.last (count_up (l.e - l.row) l.row)
+
+abbrev pub decreases-loop-row : goal.decreases-loop-row
+decreases-loop-row l = l.e - l.row

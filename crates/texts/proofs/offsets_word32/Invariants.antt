@@ -1,0 +1,21 @@
+-- What the loops of `offsets_word32` keep, and their measures. Assumes nothing.
+use Rattle.std.proofs.Common.{◌≡◌, ◌+◌, ◌-◌, ◌*◌, ◌^◌, ◌<◌, ◌≤◌, ◌∷◌, length, refl, ap, le_trans, arith, rules}
+use lib.Bits.{bit_and, and_le_l}
+use lib.Count.{count_trailing_zeros}
+use Rattle.format.specs.Rows.{set_rows}
+use Rattle.format.proofs.RowLaws.{set_more, set-none}
+use Rattle.format.proofs.WordLaws.{less_one, clear-lt}
+use Rattle.append.specs.Cells.{Among}
+use Rattle.texts.specs.Texts.{offset, Offsets}
+use Rattle.append.proofs.CellLaws.{among-others}
+use Rattle.texts.proofs.TextLaws.{offset-fits, offset-rises, Ending, begins, end_fits, end-room, turns, ended, same}
+use Rattle.texts.proofs.offsets_word32.Given as goal
+
+abbrev pub invariant-loop-rest : goal.invariant-loop-rest
+invariant-loop-rest l =
+    (l.rest ≤ l.word)
+    × Among (Offsets 4 l.src l.first) (set_rows l.base l.rest)
+    × Ending 4 (offset 4 l.src l.first) l.sum (set_rows l.base l.word) l.initial.out l.at l.out l.here l.end (set_rows l.base l.rest)
+
+abbrev pub decreases-loop-rest : goal.decreases-loop-rest
+decreases-loop-rest l = l.rest

@@ -1,0 +1,17 @@
+-- What the loops of `texts_word` keep, and their measures. Assumes nothing.
+use Rattle.std.proofs.Common.{◌+◌, ◌≤◌, refl, arith, rules}
+use Rattle.format.specs.Rows.{set_rows}
+use Rattle.format.proofs.Put.{Left, whole, done, kept}
+use Rattle.format.proofs.RowLaws.{set-none}
+use Rattle.append.specs.Cells.{Among}
+use Rattle.texts.specs.Texts.{start_in, texts_of, Texts}
+use Rattle.texts.proofs.TextLaws.{texts-none, among-rest, run_room, run-less, run-texts-fit, rows_few}
+use Rattle.texts.proofs.texts_word.Given as goal
+
+abbrev pub invariant-loop-rest : goal.invariant-loop-rest
+invariant-loop-rest l =
+    Among (Texts l.u l.w l.src l.first l.start) (set_rows l.base l.rest)
+    × Left l.initial.out l.at (texts_of (start_in l.u l.w l.src l.first) l.src l.start (set_rows l.base l.word)) l.out l.here (texts_of (start_in l.u l.w l.src l.first) l.src l.start (set_rows l.base l.rest))
+
+abbrev pub decreases-loop-rest : goal.decreases-loop-rest
+decreases-loop-rest l = l.rest
