@@ -1,0 +1,34 @@
+-- `scan::blank_end` meets its contract: no bit is set in the bytes of the four words that are passed. Assumes nothing.
+use Rattle.std.proofs.Common.{◌-◌, ◌*◌, arith, rules}
+use Rattle.slots.specs.Source.{slot_of}
+use Rattle.scan.specs.Asked.{Blank}
+use Rattle.scan.proofs.Blanks.{bytes-blank, blank_none, blank-on}
+use Rattle.scan.proofs.blank_end.Goals as goal
+
+pub loop-w-preserved : goal.loop-w-preserved
+loop-w-preserved c =
+    let read = c.before in
+    let start = read.before.before.before.before.before.before.before.before in
+    blank-on _ _ start.loop-w.invariant _ _ (omega arith) (omega arith) (omega arith)
+    (bytes-blank _ (λ i. omega (arith, start.shared_slice_known-1.given i)) _
+    read.get64.ensures.value
+    read.get64-in-loop-w.ensures.value
+    read.get64-in-loop-w-2.ensures.value
+    read.get64-in-loop-w-3.ensures.value
+    read.get64-in-loop-w-4.ensures.value
+    c.if-low-high-ne0.false)
+
+pub loop-w-init : goal.loop-w-init
+loop-w-init c = blank_none _ _ _
+
+pub overflow_mul-w : goal.overflow_mul-w
+overflow_mul-w c = let h = c.loop-w.invariant.high in omega arith
+
+pub overflow_add-w : goal.overflow_add-w
+overflow_add-w c = let h = c.loop-w.invariant.high in omega arith
+
+pub returns-then-low-high-ne0 : goal.returns-then-low-high-ne0
+returns-then-low-high-ne0 c = c.loop-w.invariant
+
+pub returns : goal.returns
+returns c = c.loop-w.invariant

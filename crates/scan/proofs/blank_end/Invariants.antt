@@ -1,0 +1,12 @@
+-- What the loops of `blank_end` keep, and their measures. Assumes nothing.
+use Rattle.std.proofs.Common.{◌-◌, ◌*◌, arith, rules}
+use Rattle.slots.specs.Source.{slot_of}
+use Rattle.scan.specs.Asked.{Blank}
+use Rattle.scan.proofs.Blanks.{bytes-blank, blank_none, blank-on}
+use Rattle.scan.proofs.blank_end.Given as goal
+
+abbrev pub invariant-loop-w : goal.invariant-loop-w
+invariant-loop-w l = Blank (slot_of l.s l.b) l.from l.len l.w
+
+abbrev pub decreases-loop-w : goal.decreases-loop-w
+decreases-loop-w l = l.len - 64 * l.w

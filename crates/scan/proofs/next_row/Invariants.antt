@@ -1,0 +1,14 @@
+-- What the loops of `next_row` keep, and their measures. Assumes nothing.
+use Rattle.std.proofs.Common.{◌≡◌, ◌+◌, ◌-◌, ◌*◌, ◌<◌, sym, ◌∙◌, arith, rules}
+use lib.Count.{count_trailing_zeros}
+use Rattle.format.specs.Slots.{word_from, after}
+use Rattle.format.proofs.SlotLaws.{all_none}
+use Rattle.slots.specs.Source.{slot_of}
+use Rattle.scan.proofs.Scan.{Scanned, Hit, starts, hit, passed, fresh, sought-none, sought-here, sought-past}
+use Rattle.scan.proofs.next_row.Given as goal
+
+abbrev pub invariant-loop-x : goal.invariant-loop-x
+invariant-loop-x l = (64 * l.w < l.end) × Scanned (slot_of l.s l.b) l.from l.w l.from l.from × (l.x ≡ word_from (after (slot_of l.s l.b) l.from) 64 (64 * l.w))
+
+abbrev pub decreases-loop-x : goal.decreases-loop-x
+decreases-loop-x l = l.end - 64 * l.w

@@ -1,0 +1,23 @@
+-- What the loops of `next_run` keep, and their measures. Assumes nothing.
+use Rattle.std.proofs.Common.{◌≡◌, ◌+◌, ◌-◌, ◌*◌, ◌<◌, ◌≤◌, sym, ◌∙◌, ⊎_elim, arith, rules}
+use lib.Bits.{and_le_r}
+use lib.Count.{count_trailing_zeros}
+use Rattle.format.specs.Slots.{word_from, after}
+use Rattle.format.proofs.SlotLaws.{all_none}
+use Rattle.slots.specs.Source.{slot_of}
+use Rattle.slots.proofs.Reading.{slot-in}
+use Rattle.scan.proofs.Scan.{Scanned, Hit, Ended, starts, hit, opens, grows, passed, jumps, fresh, ends, ended-run}
+use Rattle.scan.proofs.Asked.{run-first, end-first}
+use Rattle.scan.proofs.next_run.Given as goal
+
+abbrev pub invariant-loop-x : goal.invariant-loop-x
+invariant-loop-x l = Scanned (slot_of l.s l.b) l.from l.w l.a l.e × (l.x ≡ word_from (after (slot_of l.s l.b) l.e) 64 (64 * l.w))
+
+abbrev pub decreases-loop-x : goal.decreases-loop-x
+decreases-loop-x l = l.x
+
+abbrev pub invariant-words : goal.invariant-words
+invariant-words l = (64 * l.w < l.b.len) × Scanned (slot_of l.s l.b) l.from l.w l.a l.e × (l.x ≡ word_from (after (slot_of l.s l.b) l.e) 64 (64 * l.w))
+
+abbrev pub decreases-words : goal.decreases-words
+decreases-words l = l.b.len - 64 * l.w
