@@ -1,0 +1,15 @@
+-- What the loops of `contents::wrong_content` keep, and their measures. Assumes nothing.
+use Prim.Native.Nat.{◌-◌, ◌≤◌}
+use borrow.Author.Rules.{rules}
+use mathlib.Core.Path.{◌∙◌, ◌≡◌, ap, refl}
+use Rattle.content.proofs.Fold.{any-end, any-more, any-start}
+use Rattle.format.specs.Bytes.{any_below}
+use Rattle.format.specs.Node.{kind}
+use Rattle.format.specs.Verdict.{bad_content, wrong_content}
+use Rattle.checker.proofs.contents.wrong_content.Given as goal
+
+abbrev pub invariant-loop-i : goal.invariant-loop-i
+invariant-loop-i l = (l.i ≤ l.n) × (l.bad ≡ any_below (λ k. bad_content (kind l.pack k) l.pack k) l.i)
+
+abbrev pub decreases-loop-i : goal.decreases-loop-i
+decreases-loop-i l = l.n - l.i

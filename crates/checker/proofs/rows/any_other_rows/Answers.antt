@@ -1,0 +1,21 @@
+-- `checker::rows::any_other_rows` meets its contract: bad gathers the nodes below i. Assumes nothing.
+use Prim.Native.Nat.{◌-◌, ◌≤◌}
+use borrow.Author.Rules.{rules}
+use lib.Dec.{ltb}
+use mathlib.Core.Bool.{◌&&◌}
+use mathlib.Core.Path.{◌∙◌, ◌≡◌, ap, refl}
+use native.Mathlib.Omega.{arith}
+use Rattle.content.proofs.Fold.{any-end, any-more, any-start}
+use Rattle.format.specs.Bytes.{any_below}
+use Rattle.format.specs.Verdict.{bad_child_rows}
+use Rattle.checker.proofs.Children.{child-rows-is}
+use Rattle.checker.proofs.rows.any_other_rows.Goals as goal
+
+pub loop-i-init : goal.loop-i-init
+loop-i-init c = (search rules, any-start _)
+
+pub loop-i-preserved : goal.loop-i-preserved
+loop-i-preserved c = let l = c.before.before.before in let s = l.before.before in (search rules, any-more _ _ _ l.loop-i.invariant.1 (child-rows-is _ _ _ (s.requires.2.at l.loop-i.i (omega arith)) c.other_rows.ensures) refl)
+
+pub returns : goal.returns
+returns c = any-end _ _ _ c.loop-i.invariant.0 c.loop-i-test.false c.loop-i.invariant.1 ∙ ap (any_below _) c.requires.0

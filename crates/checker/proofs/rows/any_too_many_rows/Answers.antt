@@ -1,0 +1,18 @@
+-- `checker::rows::any_too_many_rows` meets its contract: bad gathers the nodes below i. Assumes nothing.
+use Prim.Native.Nat.{◌-◌, ◌≤◌}
+use borrow.Author.Rules.{rules}
+use lib.Dec.{ltb}
+use mathlib.Core.Path.{◌∙◌, ◌≡◌, ap, refl}
+use Rattle.content.proofs.Fold.{any-end, any-more, any-start}
+use Rattle.format.specs.Bytes.{any_below}
+use Rattle.format.specs.Node.{places}
+use Rattle.checker.proofs.rows.any_too_many_rows.Goals as goal
+
+pub loop-i-init : goal.loop-i-init
+loop-i-init c = (search rules, any-start _)
+
+pub loop-i-preserved : goal.loop-i-preserved
+loop-i-preserved c = (search rules, any-more _ _ _ c.loop-i.invariant.1 c.too_many_rows-bad.ensures refl)
+
+pub returns : goal.returns
+returns c = any-end _ _ _ c.loop-i.invariant.0 c.loop-i-test.false c.loop-i.invariant.1 ∙ ap (any_below _) c.requires
