@@ -6,7 +6,7 @@ use native.Mathlib.Omega.{arith}
 use lib.Dec.{lit≤}
 use lib.ListN.{get_or}
 use Rattle.format.specs.declared.Kind.{Kind}
-use Rattle.format.specs.declared.Kind.TheVariants.{Bytes32, Bytes64, Runs, Struct, Union, Nested32, Nested64}
+use Rattle.format.specs.declared.Kind.TheVariants.{Bits, Native, Fixed, Bytes32, Bytes64, Views, Lists32, Lists64, Runs, Struct, Union, Dictionary, Nested32, Nested64, Unknown}
 use Rattle.format.specs.Node.{node_count, kind_number, kind_of, kind, param, rows, skip, places, validity_at, first_at}
 use Rattle.format.specs.Accepted.{Sound, Shares, Carries, Nests, Inner}
 use Rattle.format.specs.Accepted as is
@@ -48,6 +48,19 @@ module _ (b : List ℕ) (i : ℕ) where
       go : (k : Kind) → kind b i ≡ k → Shares k → ⊥
       go Struct e is.Shares.struct = g (number-kind b i Struct e (λ q. let z : ◌≡◌ {A = ℕ} 10 0 = ap number_of q in omega arith))
       go Union e is.Shares.union = h (number-kind b i Union e (λ q. let z : ◌≡◌ {A = ℕ} 11 0 = ap number_of q in omega arith))
+      go Bits e s = elim s [ ]
+      go Native e s = elim s [ ]
+      go Fixed e s = elim s [ ]
+      go Bytes32 e s = elim s [ ]
+      go Bytes64 e s = elim s [ ]
+      go Views e s = elim s [ ]
+      go Lists32 e s = elim s [ ]
+      go Lists64 e s = elim s [ ]
+      go Runs e s = elim s [ ]
+      go Dictionary e s = elim s [ ]
+      go Nested32 e s = elim s [ ]
+      go Nested64 e s = elim s [ ]
+      go Unknown e s = elim s [ ]
 
   -- so is a list
   pub of-nested32 : kind_number b i ≡ 13 → Nests 4 (kind b i)
@@ -64,6 +77,19 @@ module _ (b : List ℕ) (i : ℕ) where
       go : (w : ℕ) (k : Kind) → kind b i ≡ k → Nests w k → ⊥
       go _ Nested32 e is.Nests.nested32 = g (number-kind b i Nested32 e (λ q. let z : ◌≡◌ {A = ℕ} 13 0 = ap number_of q in omega arith))
       go _ Nested64 e is.Nests.nested64 = h (number-kind b i Nested64 e (λ q. let z : ◌≡◌ {A = ℕ} 14 0 = ap number_of q in omega arith))
+      go w Bits e s = elim s [ ]
+      go w Native e s = elim s [ ]
+      go w Fixed e s = elim s [ ]
+      go w Bytes32 e s = elim s [ ]
+      go w Bytes64 e s = elim s [ ]
+      go w Views e s = elim s [ ]
+      go w Lists32 e s = elim s [ ]
+      go w Lists64 e s = elim s [ ]
+      go w Runs e s = elim s [ ]
+      go w Struct e s = elim s [ ]
+      go w Union e s = elim s [ ]
+      go w Dictionary e s = elim s [ ]
+      go w Unknown e s = elim s [ ]
 
   -- a node with children that hands on neither its rows nor its runs nor list rows carries them
   pub of_others : Inner (kind b i) → (kind_number b i ≡ 9 → ⊥) → (kind_number b i ≡ 13 → ⊥) → (kind_number b i ≡ 14 → ⊥) → (Shares (kind b i) → ⊥) → Carries (kind b i)
