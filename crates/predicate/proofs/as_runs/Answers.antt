@@ -1,0 +1,6 @@
+-- `predicate::as_runs` meets its contract: either test. Assumes nothing.
+use Rattle.std.proofs.Common.{rules}
+use Rattle.predicate.proofs.as_runs.Goals as goal
+
+pub returns : goal.returns
+returns c = rw c.long.ensures
