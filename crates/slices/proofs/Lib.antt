@@ -1,4 +1,3 @@
--- Laws of a step, of what a caller learns of it, and of a reader that is lent to `next`.
+-- Laws of a step and of what a caller learns of it.
 pub mod StepLaws
 pub mod Reading
-pub mod NextLent

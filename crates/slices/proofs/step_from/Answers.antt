@@ -8,17 +8,13 @@ use Rattle.scan.specs.declared.Run.{Run}
 use Rattle.scan.specs.declared.Run.TheVariants.{Span, End}
 use Rattle.slices.specs.declared.Step.{Step}
 use Rattle.slices.specs.Reader.{run_from, behind, step_of}
-use Rattle.slices.proofs.step_from.Statement.{statement}
-use Rattle.slices.proofs.step_from.Tie as tie
+use Rattle.slices.proofs.step_from.Goals as goal
 
 stepped : (s : List ℕ) (b : Bits) (from : ℕ) (r : Run) → r ≡ run_from s b from → ◌≡◌ {A = Step} (record { run = r; at = behind r b.len }) (step_of s b from)
 stepped s b from r e = ap (λ (x : Run). record { run = x; at = behind x b.len }) e
 
-returns : tie.Need-returns
-returns c = stepped _ _ _ (Span _ _) (sym c.before.run.given.1 ∙ c.before.before.before.next-run.ensures)
+pub returns-in-Span : goal.returns-in-Span
+returns-in-Span c = stepped _ _ _ (Span _ _) (sym c.in-Span.is ∙ c.next_run-run.ensures)
 
-returns-2 : tie.Need-returns-2
-returns-2 c = rw c.enum_told.given.1 (stepped _ _ _ End (sym c.enum_told.given.1 ∙ c.before.before.next-run.ensures))
-
-pub step-from-spec : {M : Type 1} → statement M
-step-from-spec = tie.close (tie.spec (λ c κs. search rules) (λ c. search rules) (λ c. search rules) returns returns-2)
+pub returns-in-End : goal.returns-in-End
+returns-in-End c = rw c.in-End.is (stepped _ _ _ End (sym c.in-End.is ∙ c.next_run-run.ensures))
