@@ -2,6 +2,7 @@
 // the scratch that is zero, and whether all else that was lent is as it was.
 // A line: a name, the mask, |, the journal, |, then six numbers: is a count stated, and which; is the list asked for, and how long is
 // the lent one; the lengths of scratch and output. A line that begins with # is passed over.
+#![tactic(auto)]
 
 ghost use Rattle.std.specs.Prelude.{◌≤◌, ◌<◌, length};
 

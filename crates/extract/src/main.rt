@@ -1,4 +1,6 @@
 // The program `extract`: mask.pack and journal.pack of the working directory in, out.pack and one line out (docs/FORMAT.md, 10).
+#![tactic(auto)]
+
 ghost use Rattle.std.specs.Prelude.{◌≤◌, length};
 
 use format::Answer;

@@ -1,4 +1,6 @@
 // Runs the specification's cases (docs/FORMAT.md) of masks and words and prints what each gives: P3 to P7, whole words compressed, and by what a bitmap of 128 slots goes.
+#![tactic(auto)]
+
 use format::{Prepared, Route};
 
 // A mask of up to eight slots, no null: the body's one byte of bits, a node, the trailer.

@@ -1,5 +1,7 @@
 // Runs the checker on packs that stand on standard input as text, one to a line, and prints each one's name and numbers: the one by
 // which it is refused as a journal, and as a mask.
+#![tactic(auto)]
+
 ghost use Rattle.std.specs.Prelude.{◌≤◌, ◌<◌, length};
 
 use libc::STDOUT_FILENO;
