@@ -7,7 +7,6 @@ use Rattle.format.specs.Put.{Wrote}
 use Rattle.bits.specs.Pack.{Packed, waiting, packing}
 use Rattle.bits.specs.declared.Packing.{Packing}
 use Rattle.bits.specs.declared.Pushed.{Pushed}
-use Rattle.bits.specs.declared.Pushed.TheVariants as Pushed
 use Rattle.predicate.specs.declared.Held.TheVariants.{Stored, Lazy}
 use Rattle.predicate.specs.declared.Selection.{Selection}
 use Rattle.predicate.specs.declared.Selection.TheVariants.{Nothing, Everything, Runs, Rows}

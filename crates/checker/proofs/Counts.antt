@@ -7,7 +7,7 @@ use native.Mathlib.Omega.{arith}
 use borrow.Author.Tests.{eq-eqb}
 use lib.ListN.{length, get_or}
 use Rattle.format.specs.Bytes.{chosen, bit_at}
-use Rattle.format.specs.Node.{table_start, node_count, no_bitmap, kind_of, rows, skip, validity_at, has_no_bitmap, valid, null_count, child}
+use Rattle.format.specs.Node.{table_start, node_count, no_bitmap, kind_of, rows, validity_at, has_no_bitmap, valid, null_count, child}
 use Rattle.format.proofs.NullLaws.{none-chosen}
 use Rattle.format.proofs.Numbers.{le-lt}
 use Rattle.pack.specs.declared.Node.{Node}

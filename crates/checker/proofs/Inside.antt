@@ -1,5 +1,5 @@
 -- Refusal 8 on a node that was read: its buffers can be read, and the kernels' answers are the definition's. Assumes nothing.
-use Prim.Native.Nat.{ℕ, ◌+◌, ◌-◌, ◌*◌, ◌/◌, ◌^◌, ◌≤◌, ◌<◌}
+use Prim.Native.Nat.{ℕ, ◌+◌, ◌*◌, ◌/◌, ◌^◌, ◌≤◌, ◌<◌}
 use mathlib.Core.Bool.{Bool, true, false}
 use mathlib.Core.List.{List, [], ◌∷◌}
 use mathlib.Core.Path.{◌≡◌, sym, ap, ◌∙◌}
@@ -10,7 +10,7 @@ use lib.ListN.{length}
 use Rattle.format.specs.declared.Kind.{Kind}
 use Rattle.format.specs.declared.Kind.TheVariants.{Bytes32, Bytes64, Views, Lists32, Lists64, Runs, Union, Dictionary, Nested32, Nested64}
 use Rattle.format.specs.Bytes.{any_below, bytes_for}
-use Rattle.format.specs.Node.{table_start, node_count, no_bitmap, kind_of, kind, param, rows, skip, kids, first_at, second_length, places, has_no_bitmap, child, data_buffer}
+use Rattle.format.specs.Node.{table_start, node_count, no_bitmap, kind_of, kind, param, rows, skip, first_at, second_length, places, has_no_bitmap, child, data_buffer}
 use Rattle.format.specs.Verdict.{one_of, first_size, second_size, bad_content}
 use Rattle.content.specs.Numbers.{bad_offsets_at, bad_range_at, bad_key, bad_valid_key, bad_runs_at, bad_view_at, DataBuffers}
 use Rattle.format.specs.Accepted.{DataBuffer}

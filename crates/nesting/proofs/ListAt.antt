@@ -9,7 +9,7 @@ use borrow.Author.Tests.{eq-eqb, ne_eqb}
 use lib.ListN.{length, get_or}
 use Rattle.format.specs.declared.Kind.{Kind}
 use Rattle.format.specs.Bytes.{le, bit_in, bit_at}
-use Rattle.format.specs.Node.{node_count, kind, rows, skip, places, first_at, validity_at, no_bitmap, has_no_bitmap, valid, first_number}
+use Rattle.format.specs.Node.{node_count, rows, skip, places, first_at, validity_at, no_bitmap, has_no_bitmap, valid, first_number}
 use Rattle.format.specs.Node.{parent}
 use Rattle.format.specs.Kept.{kept_rows, kept_spans}
 use Rattle.format.specs.Verdict.{pack_limit, one_of}

@@ -1,5 +1,5 @@
 -- Words of zeros, passed over four at a time: no value bit is set in the 33 bytes that hold theirs, read as five words. Assumes nothing.
-use Rattle.std.proofs.Common.{◌≡◌, ℕ, ◌+◌, ◌-◌, ◌*◌, ◌/◌, ◌<◌, ◌≤◌, Bool, false, List, get_or, sym, ◌∙◌, arith}
+use Rattle.std.proofs.Common.{◌≡◌, ℕ, ◌+◌, ◌*◌, ◌/◌, ◌<◌, ◌≤◌, Bool, false, List, get_or, sym, ◌∙◌, arith}
 use lib.Bits.{bit_or, or_add_and, and_le_l, and_le_r}
 use Rattle.format.specs.Bytes.{le, bit_in}
 use Rattle.format.specs.Slots.{All}

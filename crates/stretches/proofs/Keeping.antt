@@ -1,5 +1,5 @@
 -- Which rows a child keeps, by those of its parent: under the root, struct and union, runs, lists, and carried. Assumes nothing.
-use Prim.Native.Nat.{ℕ, zero, suc, ◌+◌, ◌-◌, ◌*◌, ◌≤◌, ◌<◌, min}
+use Prim.Native.Nat.{ℕ, zero, suc, ◌+◌, ◌-◌, ◌≤◌, ◌<◌, min}
 use mathlib.Core.Bool.{Bool, true, false, ◌&&◌, ◌||◌, or-true, true≢false}
 use mathlib.Core.List.{List}
 use mathlib.Core.Path.{◌≡◌, refl, sym, ap, ◌∙◌}
@@ -8,7 +8,7 @@ use native.Mathlib.Decide.{dec_le}
 use native.Mathlib.Omega.{arith}
 use lib.Dec.{ltb}
 use lib.ListN.{length}
-use Rattle.format.specs.Node.{kind, rows, skip, valid, first_number, run_start, run_end, parent}
+use Rattle.format.specs.Node.{kind, rows, valid, first_number, parent}
 use Rattle.format.specs.Slots.{All}
 use Rattle.format.specs.Kept.{group_size, kept_runs, kept_rows, kept_spans}
 use Rattle.format.specs.Accepted.{Sound, Shares, Carries}

@@ -1,5 +1,5 @@
 -- The lowest run of set bits: the lowest bit added to the word, the carry clears the run and sets the bit above it. Assumes nothing.
-use Rattle.std.proofs.Common.{◌≡◌, ℕ, zero, suc, ◌+◌, ◌-◌, ◌*◌, ◌/◌, ◌%◌, ◌^◌, ◌<◌, ◌≤◌, false, ◌⊎◌, ◌∷◌, ◌++◌, length, refl, ap, ◌∙◌, ⊎_elim, add-zero, mod-eq_of_lt, zero-lt-suc, arith, length-append}
+use Rattle.std.proofs.Common.{◌≡◌, ℕ, zero, suc, ◌+◌, ◌-◌, ◌*◌, ◌/◌, ◌%◌, ◌^◌, ◌<◌, ◌≤◌, false, ◌∷◌, ◌++◌, length, refl, ap, ◌∙◌, ⊎_elim, add-zero, mod-eq_of_lt, zero-lt-suc, arith, length-append}
 use mathlib.Core.Logic.{dite}
 use native.Mathlib.Decide.{dec_lt}
 use native.Mathlib.Nat.{zero-min, min-zero}

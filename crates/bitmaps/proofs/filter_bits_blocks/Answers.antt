@@ -1,8 +1,6 @@
 -- `bitmaps::filter_bits_blocks` meets its contract. The invariant: the cursor is in step, and the bits of the rows before it are packed. Assumes nothing.
-use Prim.Native.Nat.{◌-◌}
 use mathlib.Core.Path.{refl, sym}
 use native.Mathlib.Omega.{arith}
-use Rattle.format.specs.Bytes.{packed}
 use Rattle.format.proofs.Numbers.{length-bytes}
 use Rattle.format.proofs.Put.{same_size}
 use Rattle.format.proofs.SlotLaws.{length_up}

@@ -1,8 +1,7 @@
 -- `bitmaps::filter_bits_compress` meets its contract. The invariant: the bits of the words passed are packed. Assumes nothing.
-use Prim.Native.Nat.{◌+◌, ◌-◌, ◌*◌}
+use Prim.Native.Nat.{◌+◌, ◌*◌}
 use mathlib.Core.Path.{◌≡◌, refl, ◌∙◌}
 use native.Mathlib.Omega.{arith}
-use Rattle.format.specs.Bytes.{packed}
 use Rattle.format.specs.Slots.{picks_from}
 use Rattle.format.proofs.Put.{same_size}
 use Rattle.slots.specs.Source.{word_at}

@@ -1,6 +1,6 @@
 -- `bits::compress_by` meets its contract. The invariant: the bits from bit `at` up are gathered. Assumes nothing.
 use Prim.Native.Nat.{◌+◌, ◌-◌}
-use mathlib.Core.Path.{◌≡◌, refl}
+use mathlib.Core.Path.{refl}
 use native.Mathlib.Omega.{arith}
 use Rattle.bits.proofs.FourLaws.{Gathered, begun, room, turn, done, place-high, place-low}
 use Rattle.bits.proofs.compress_by.Goals as goal

@@ -1,5 +1,5 @@
 -- What the loops of `compress_by` keep, and their measures. Assumes nothing.
-use Prim.Native.Nat.{◌-◌, ◌%◌}
+use Prim.Native.Nat.{◌%◌}
 use mathlib.Core.Path.{◌≡◌}
 use Rattle.bits.proofs.FourLaws.{Gathered}
 use Rattle.bits.proofs.compress_by.Given as goal

@@ -1,9 +1,7 @@
 -- `body::filter_node` meets its contract: by the offsets of the list before it, or the rows are told by the mask or by scratch. Assumes nothing.
-use Prim.Native.Nat.{◌-◌}
 use mathlib.Core.Bool.{true}
 use mathlib.Core.Path.{◌≡◌, sym, ◌∙◌}
 use native.Mathlib.Omega.{arith}
-use borrow.Author.Rules.{rules}
 use Rattle.measure.proofs.NodeEnd.{here}
 use Rattle.nesting.specs.Rows.{by_offsets}
 use Rattle.body.proofs.Listed.{node-after}

@@ -1,6 +1,5 @@
 -- `body::filter_values` meets its contract: the list's rows are told by the mask or by scratch. Assumes nothing.
 use native.Mathlib.Omega.{arith}
-use borrow.Author.Rules.{rules}
 use Rattle.body.proofs.SelectLaws.{chosen_of}
 use Rattle.body.proofs.Listed.{list-not, kept-few, count_next, listed-count, listed-fit, listed-written}
 use Rattle.body.proofs.filter_values.Goals as goal

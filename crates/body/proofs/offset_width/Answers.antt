@@ -1,5 +1,4 @@
 -- `body::offset_width` meets its contract. Assumes nothing.
-use borrow.Author.Rules.{rules}
 use Rattle.body.proofs.Listed.{width-32, width-64}
 use Rattle.body.proofs.offset_width.Goals as goal
 

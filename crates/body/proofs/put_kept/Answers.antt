@@ -5,7 +5,6 @@ use lib.ListN.{length}
 use Rattle.format.specs.Kept.{kept_node}
 use Rattle.format.specs.Verdict.{pack_limit}
 use Rattle.nodes.specs.Body.{node_body}
-use borrow.Author.Rules.{rules}
 use Rattle.buffers.specs.Place.{rows_by}
 use Rattle.body.proofs.KeptLaws.{picked_of, kinded-of, count-few, validity-fits, first_fits, second_fits, data-fits, nulls-fit, written_of}
 use Rattle.body.proofs.put_kept.Goals as goal

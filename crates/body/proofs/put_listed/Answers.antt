@@ -3,7 +3,6 @@ use Prim.Native.Nat.{suc, ◌+◌, ◌≤◌}
 use mathlib.Core.Path.{◌≡◌}
 use native.Mathlib.Numerals.{add-one}
 use native.Mathlib.Omega.{arith}
-use borrow.Author.Rules.{rules}
 use lib.ListN.{length}
 use Rattle.format.specs.Kept.{kept_node, kept_spans}
 use Rattle.format.specs.Verdict.{pack_limit}

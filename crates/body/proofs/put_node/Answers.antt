@@ -1,6 +1,5 @@
 -- `body::put_node` meets its contract: ten stores. Assumes nothing.
 use native.Mathlib.Omega.{arith}
-use borrow.Author.Rules.{rules}
 use lib.ListN.{length-set}
 use Rattle.body.proofs.KeptLaws.{ten-stores}
 use Rattle.body.proofs.put_node.Goals as goal

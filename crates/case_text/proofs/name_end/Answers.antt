@@ -1,5 +1,4 @@
 -- `case_text::name_end` meets its contract: what is sought from the place on is what was sought at first. Assumes nothing.
-use Prim.Native.Nat.{◌-◌}
 use mathlib.Core.Path.{refl, sym, ◌∙◌}
 use native.Mathlib.Omega.{arith}
 use Rattle.case_text.proofs.Ends.{seek-on, seek-here, seek-end}

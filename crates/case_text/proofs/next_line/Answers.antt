@@ -1,5 +1,4 @@
 -- `case_text::next_line` meets its contract: what is sought from the place on is what was sought at first. Assumes nothing.
-use Prim.Native.Nat.{◌-◌}
 use borrow.Author.Tests.{eq-eqb, ne_eqb}
 use mathlib.Core.Path.{refl, sym, ◌∙◌}
 use native.Mathlib.Omega.{arith}

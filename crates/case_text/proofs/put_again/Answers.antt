@@ -1,5 +1,4 @@
 -- `case_text::put_again` meets its contract: what is left to put, behind what was put, is what was to be put at first. Assumes nothing.
-use Prim.Native.Nat.{◌*◌}
 use borrow.Author.Rules.{rules}
 use lib.Seq.{length-take-le}
 use mathlib.Core.Path.{refl, sym, ◌∙◌}

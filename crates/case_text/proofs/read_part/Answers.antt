@@ -1,6 +1,5 @@
 -- `case_text::read_part` meets its contract: what is left to read from the place on, behind what was read, is what was to be read at first, and ends
 -- where it was to end. Assumes nothing.
-use Prim.Native.Nat.{◌-◌}
 use borrow.Author.Rules.{rules}
 use lib.ListN.{length}
 use mathlib.Core.Path.{◌≡◌, refl, sym, ap, ◌∙◌}

@@ -1,5 +1,4 @@
 -- `fill::fill_all` meets its contract. The loop's invariant: the children of the first i nodes have their bitmaps. Assumes nothing.
-use Prim.Native.Nat.{◌-◌}
 use mathlib.Core.Path.{refl}
 use native.Mathlib.Omega.{arith}
 use lib.ListN.{length-set}

@@ -1,6 +1,5 @@
 -- `filter::filter` meets its contract: the mask's own slip, or the answer of an accepted one. Assumes nothing.
 use native.Mathlib.Omega.{arith}
-use borrow.Author.Rules.{rules}
 use Rattle.filter.proofs.Ways.{mask-bad}
 use Rattle.filter.proofs.filter.Goals as goal
 

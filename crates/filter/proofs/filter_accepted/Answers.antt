@@ -1,6 +1,5 @@
 -- `filter::filter_accepted` meets its contract: 10, 12, or what is left. Assumes nothing.
 use mathlib.Core.Path.{◌≡◌, ap}
-use borrow.Author.Rules.{rules}
 use Rattle.format.specs.Node.{rows}
 use Rattle.pack.specs.declared.Node.{Node}
 use Rattle.prepare.proofs.Slips.{few-slots, few-kept}

@@ -1,6 +1,5 @@
 -- `filter::filter_listed` meets its contract: 13, 14, or the extract. Assumes nothing.
 use mathlib.Core.Path.{sym, ◌∙◌}
-use borrow.Author.Rules.{rules}
 use Rattle.filter.proofs.Ways.{journal-sound, bits-lie, short-bits, kept-picks, ready-first, ready-all, short-scratch, short-output}
 use Rattle.filter.proofs.filter_listed.Goals as goal
 

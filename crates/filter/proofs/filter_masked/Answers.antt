@@ -1,7 +1,6 @@
 -- `filter::filter_masked` meets its contract: 11, the journal's own slip, or what is left. Assumes nothing.
 use mathlib.Core.Path.{sym, ◌∙◌}
 use native.Mathlib.Omega.{arith}
-use borrow.Author.Rules.{rules}
 use Rattle.slots.proofs.Masked.{mask-lies, mask-count}
 use Rattle.prepare.specs.Prepare.{Counted}
 use Rattle.filter.proofs.Ways.{right-unstated, restated, miscounted, journal-bad}

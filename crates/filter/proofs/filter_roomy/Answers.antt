@@ -1,7 +1,6 @@
 -- `filter::filter_roomy` meets its contract: the fronts of output and scratch are written, the rest of them is as it was. Assumes nothing.
 use Prim.Native.Nat.{ℕ}
 use mathlib.Core.Path.{sym, ap, ◌∙◌}
-use borrow.Author.Rules.{rules}
 use lib.ListN.{replicate}
 use lib.Seq.{length-take-le}
 use Rattle.filter.proofs.Ways.{short-bits, kept-picks, routed, size_fits, size_few, done}

@@ -1,7 +1,6 @@
 -- `kept_counts::count_listed` meets its contract. The loop's invariant: n is the child rows of the kept rows below r. Assumes nothing.
 use native.Mathlib.Omega.{arith}
 use borrow.Author.Rules.{rules}
-use Prim.Native.Nat.{◌-◌}
 use Rattle.nesting.proofs.ListAt.{list-few, list-short, list-rows, list-spans, child-few, rise-to}
 use Rattle.kept_counts.proofs.Counting.{listed-rises, listed_more, listed-all}
 use Rattle.stretches.proofs.Minding.{seen_none}

@@ -1,5 +1,5 @@
 -- `list_columns::filter_spans` meets its contract. What is left to write is where the rows from the cursor's place on end; each arm writes a block's ends. Assumes nothing.
-use Rattle.std.proofs.Common.{◌-◌, ◌∙◌}
+use Rattle.std.proofs.Common.{◌∙◌}
 use Rattle.format.proofs.Put.{same_size}
 use Rattle.predicate.proofs.Steps.{falls}
 use Rattle.text_columns.proofs.TextWalk.{sum-none, sum_more, sum_done, sum_same, zero-fits, ends-fit, offsets-done}

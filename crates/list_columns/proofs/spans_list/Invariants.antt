@@ -1,5 +1,5 @@
 -- What the loops of `spans_list` keep, and their measures. Assumes nothing.
-use Rattle.std.proofs.Common.{◌+◌, ◌-◌, ◌≤◌}
+use Rattle.std.proofs.Common.{◌-◌, ◌≤◌}
 use Rattle.format.specs.Bytes.{bytes_at}
 use Rattle.append.specs.Cells.{Among}
 use Rattle.texts.proofs.TextLaws.{Ending}

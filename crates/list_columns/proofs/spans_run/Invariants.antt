@@ -1,5 +1,5 @@
 -- What the loops of `spans_run` keep, and their measures. Assumes nothing.
-use Rattle.std.proofs.Common.{◌+◌, ◌-◌, ◌≤◌}
+use Rattle.std.proofs.Common.{◌-◌, ◌≤◌}
 use Rattle.format.specs.Slots.{count_up}
 use Rattle.texts.proofs.TextLaws.{Ending}
 use Rattle.list_columns.specs.Spans.{reach}

@@ -1,5 +1,4 @@
 -- `list_marks::mark_rows` meets its contract. What is left to mark are the child rows of the rows at the bits left in `rest`; a turn takes the lowest run. Assumes nothing.
-use Prim.Native.Nat.{◌*◌}
 use native.Mathlib.Omega.{arith}
 use borrow.Author.Rules.{rules}
 use Rattle.format.proofs.RowLaws.{set-none}

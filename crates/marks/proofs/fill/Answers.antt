@@ -1,5 +1,4 @@
 -- `marks::fill` meets its contract. What is left to write are the bytes from j on. Assumes nothing.
-use Prim.Native.Nat.{◌-◌}
 use mathlib.Core.Path.{refl}
 use native.Mathlib.Omega.{arith}
 use borrow.Author.Rules.{rules}

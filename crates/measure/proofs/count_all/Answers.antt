@@ -1,7 +1,6 @@
 -- `measure::count_all` meets its contract. The loop's invariant: the first i nodes are counted. Assumes nothing.
 use native.Mathlib.Omega.{arith}
 use mathlib.Core.Path.{refl}
-use Prim.Native.Nat.{◌-◌}
 use lib.ListN.{length-set}
 use Rattle.pack.proofs.Stack.{holds_more}
 use Rattle.nesting.proofs.Arrays.{holds-less}

@@ -1,6 +1,5 @@
 -- `measure::scratch_needed` meets its contract. The loop's invariant: `need` is what the first i nodes take. Assumes nothing.
 use native.Mathlib.Omega.{arith}
-use Prim.Native.Nat.{◌-◌, ◌*◌}
 use Rattle.nesting.proofs.Scratch.{scratch-none, scratch-all, scratch-more, scratch-same, child-inside, child-few, bytes-few}
 use Rattle.measure.proofs.scratch_needed.Goals as goal
 

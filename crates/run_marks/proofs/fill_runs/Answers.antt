@@ -1,5 +1,4 @@
 -- `run_marks::fill_runs` meets its contract. What is left to write are the bytes of the runs from r on, and run r starts at lo; what lies before `at` is as it was. Assumes nothing.
-use Prim.Native.Nat.{◌-◌}
 use mathlib.Core.Bool.{cond}
 use mathlib.Core.Path.{◌≡◌, refl, sym, ap, ◌∙◌}
 use native.Mathlib.Omega.{arith}

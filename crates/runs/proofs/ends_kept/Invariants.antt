@@ -1,5 +1,5 @@
 -- What the loops of `ends_kept` keep, and their measures. Assumes nothing.
-use Prim.Native.Nat.{◌+◌, ◌-◌, ◌≤◌, min}
+use Prim.Native.Nat.{◌-◌, ◌≤◌, min}
 use mathlib.Core.Path.{◌≡◌}
 use Rattle.format.specs.Slots.{picks_from}
 use Rattle.predicate.specs.Selection.{kept_by}

@@ -1,5 +1,5 @@
 -- `scan::next_row` meets its contract. The slots from `from` up to word w fail, and x is what is left of that word. Assumes nothing.
-use Rattle.std.proofs.Common.{◌+◌, ◌-◌, ◌*◌, ◌<◌, sym, ◌∙◌, arith}
+use Rattle.std.proofs.Common.{◌+◌, ◌*◌, sym, ◌∙◌, arith}
 use lib.Count.{count_trailing_zeros}
 use Rattle.format.proofs.SlotLaws.{all_none}
 use Rattle.slots.specs.Source.{slot_of}

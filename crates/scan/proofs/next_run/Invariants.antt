@@ -1,5 +1,5 @@
 -- What the loops of `next_run` keep, and their measures. Assumes nothing.
-use Rattle.std.proofs.Common.{◌≡◌, ◌+◌, ◌-◌, ◌*◌, ◌<◌}
+use Rattle.std.proofs.Common.{◌≡◌, ◌-◌, ◌*◌, ◌<◌}
 use Rattle.format.specs.Slots.{word_from, after}
 use Rattle.slots.specs.Source.{slot_of}
 use Rattle.scan.proofs.Scan.{Scanned}

@@ -1,7 +1,6 @@
 -- `select::fill_and_write` meets its contract: the filled scratch is what the writer asks for, and it is cleared from end to end. Assumes nothing.
 use mathlib.Core.Path.{refl, sym}
 use native.Mathlib.Omega.{arith}
-use borrow.Author.Rules.{rules}
 use Rattle.select.proofs.Filling.{given, cleared}
 use Rattle.select.proofs.fill_and_write.Goals as goal
 

@@ -1,5 +1,4 @@
 -- `select::select` meets its contract: the list is stored, or the mask is read each time. Assumes nothing.
-use borrow.Author.Rules.{rules}
 use Rattle.select.proofs.Selecting.{mask-lies, few-slots, list-fits, selected-stored, selected-lazy}
 use Rattle.select.proofs.select.Goals as goal
 

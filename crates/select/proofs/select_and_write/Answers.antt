@@ -1,5 +1,4 @@
 -- `select::select_and_write` meets its contract: few rows are stored for this call alone, else the selection is the mask's. Assumes nothing.
-use borrow.Author.Rules.{rules}
 use Rattle.select.proofs.Selecting.{mask-lies, rows_few, unlisted, selects}
 use Rattle.select.proofs.select_and_write.Goals as goal
 

@@ -1,7 +1,6 @@
 -- `select::write_few` meets its contract: the stored row numbers are a selection of the mask's rows. Assumes nothing.
 use mathlib.Core.Path.{refl}
 use native.Mathlib.Omega.{arith}
-use borrow.Author.Rules.{rules}
 use Rattle.nesting.proofs.ByKind.{rows-small}
 use Rattle.select.proofs.Selecting.{rows_fit, selects-stored}
 use Rattle.select.proofs.write_few.Goals as goal

@@ -1,5 +1,4 @@
 -- `slices::count_runs` meets its contract. The invariant: the runs counted, and those from `at` on, are all. Assumes nothing.
-use Prim.Native.Nat.{◌-◌}
 use mathlib.Core.Path.{ap}
 use native.Mathlib.Nat.{zero-add, sub-zero}
 use native.Mathlib.Omega.{arith}

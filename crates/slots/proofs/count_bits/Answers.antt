@@ -1,5 +1,5 @@
 -- `slots::count_bits` meets its contract: before word w, the set bits of the words before it are counted. Assumes nothing.
-use Prim.Native.Nat.{◌-◌, ◌*◌, ◌≤◌}
+use Prim.Native.Nat.{◌*◌, ◌≤◌}
 use mathlib.Core.Path.{◌≡◌, refl}
 use native.Mathlib.Omega.{arith}
 use lib.Count.{ones}

@@ -1,5 +1,5 @@
 -- What the loops of `count_bits` keep, and their measures. Assumes nothing.
-use Prim.Native.Nat.{◌-◌, ◌*◌, ◌≤◌}
+use Prim.Native.Nat.{◌-◌, ◌≤◌}
 use Rattle.format.specs.Bytes.{bit_at}
 use Rattle.slots.proofs.Counting.{Counted}
 use Rattle.slots.proofs.count_bits.Given as goal

@@ -1,5 +1,5 @@
 -- `slots::count_both` meets its contract: before word w, the bits set in both places are counted of the words before it. Assumes nothing.
-use Prim.Native.Nat.{◌-◌, ◌*◌, ◌≤◌}
+use Prim.Native.Nat.{◌*◌, ◌≤◌}
 use mathlib.Core.Path.{◌≡◌, refl}
 use native.Mathlib.Omega.{arith}
 use lib.Bits.{bit_and}

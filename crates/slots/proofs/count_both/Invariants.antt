@@ -1,5 +1,5 @@
 -- What the loops of `count_both` keep, and their measures. Assumes nothing.
-use Prim.Native.Nat.{ℕ, ◌-◌, ◌*◌, ◌≤◌}
+use Prim.Native.Nat.{ℕ, ◌-◌, ◌≤◌}
 use mathlib.Core.Bool.{Bool, ◌&&◌}
 use mathlib.Core.List.{List}
 use Rattle.format.specs.Bytes.{bit_at}

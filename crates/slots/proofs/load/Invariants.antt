@@ -1,5 +1,5 @@
 -- What the loops of `load` keep, and their measures. Assumes nothing.
-use Prim.Native.Nat.{◌+◌, ◌*◌, ◌≤◌, ◌<◌, ◌-◌}
+use Prim.Native.Nat.{◌+◌, ◌*◌, ◌≤◌, ◌-◌}
 use mathlib.Core.Path.{◌≡◌}
 use Rattle.format.specs.Bytes.{bit_in}
 use Rattle.format.specs.Slots.{word_from}

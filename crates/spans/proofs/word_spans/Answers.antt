@@ -1,5 +1,4 @@
 -- `spans::word_spans` meets its contract. What `n` lacks are the rows at the bits left in `rest`; a turn takes the lowest run. Assumes nothing.
-use Prim.Native.Nat.{◌+◌}
 use native.Mathlib.Omega.{arith}
 use borrow.Author.Rules.{rules}
 use Rattle.format.specs.Rows.{set_rows}

@@ -1,7 +1,7 @@
 -- What the loops of `put_word` keep, and their measures. Assumes nothing.
-use Rattle.std.proofs.Common.{◌+◌, ◌-◌, ◌^◌, ◌<◌}
+use Rattle.std.proofs.Common.{◌^◌, ◌<◌}
 use Rattle.format.specs.Rows.{set_rows, Below}
-use Rattle.format.proofs.Put.{Left, kept}
+use Rattle.format.proofs.Put.{Left}
 use Rattle.stored_list.proofs.put_word.Given as goal
 
 abbrev pub invariant-loop-x : goal.invariant-loop-x

@@ -1,5 +1,5 @@
 -- `stored_list::store_rows` meets its contract. What is left to store are the picks from word w on. Assumes nothing.
-use Rattle.std.proofs.Common.{◌≡◌, ◌+◌, ◌-◌, ◌*◌, [], ◌++◌, sym, refl, ◌∙◌, append-nil, arith}
+use Rattle.std.proofs.Common.{◌≡◌, ◌+◌, ◌*◌, [], ◌++◌, sym, refl, ◌∙◌, append-nil, arith}
 use Rattle.format.specs.Rows.{set_rows}
 use Rattle.format.proofs.Put.{same_size, whole, less, room, done, kept}
 use Rattle.slots.specs.Source.{slot_of}

@@ -1,7 +1,7 @@
 -- What the loops of `store_rows` keep, and their measures. Assumes nothing.
-use Rattle.std.proofs.Common.{◌+◌, ◌-◌, ◌*◌, ◌≤◌}
+use Rattle.std.proofs.Common.{◌-◌, ◌*◌, ◌≤◌}
 use Rattle.format.specs.Slots.{picks_from}
-use Rattle.format.proofs.Put.{Left, kept}
+use Rattle.format.proofs.Put.{Left}
 use Rattle.slots.specs.Source.{slot_of}
 use Rattle.predicate.specs.Selection.{picks_on}
 use Rattle.stored_list.proofs.store_rows.Given as goal

@@ -1,5 +1,5 @@
 -- `stored_list::store_runs` meets its contract. What is left to store are the starts and ends of the runs from `place` on. Assumes nothing.
-use Rattle.std.proofs.Common.{◌≡◌, ◌+◌, ◌-◌, ◌≤◌, [], ◌∷◌, length, refl, arith, length-set}
+use Rattle.std.proofs.Common.{◌≡◌, ◌+◌, ◌≤◌, [], ◌∷◌, length, refl, arith, length-set}
 use Rattle.format.specs.Slots.{FirstRun}
 use Rattle.format.proofs.Put.{whole, stored, room, done, kept}
 use Rattle.slots.specs.Source.{slot_of}

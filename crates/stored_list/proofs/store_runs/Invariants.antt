@@ -1,7 +1,7 @@
 -- What the loops of `store_runs` keep, and their measures. Assumes nothing.
-use Rattle.std.proofs.Common.{◌+◌, ◌-◌, ◌≤◌}
+use Rattle.std.proofs.Common.{◌-◌, ◌≤◌}
 use Rattle.format.specs.Slots.{runs_from, starts_and_ends}
-use Rattle.format.proofs.Put.{Left, kept}
+use Rattle.format.proofs.Put.{Left}
 use Rattle.slots.specs.Source.{slot_of}
 use Rattle.predicate.specs.Selection.{edges_on}
 use Rattle.stored_list.proofs.store_runs.Given as goal

@@ -1,7 +1,6 @@
 -- `stretch_marks::mark_stretches` meets its contract. The rows from r on are left to mark. Assumes nothing.
 use native.Mathlib.Omega.{arith}
 use borrow.Author.Rules.{rules}
-use Prim.Native.Nat.{◌-◌}
 use Rattle.nesting.proofs.Sieve.{node-few, len_is, len-fits}
 use Rattle.stretches.proofs.Minding.{seen_none}
 use Rattle.stretches.proofs.Telling.{closer}

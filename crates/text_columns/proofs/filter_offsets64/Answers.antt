@@ -1,5 +1,4 @@
 -- `text_columns::filter_offsets64` meets its contract. What is left to write is where the rows from the cursor's place on end; each arm writes a block's ends. Assumes nothing.
-use Prim.Native.Nat.{◌-◌}
 use mathlib.Core.Path.{◌∙◌}
 use native.Mathlib.Omega.{arith}
 use Rattle.format.proofs.Put.{same_size}

@@ -1,5 +1,4 @@
 -- `text_columns::filter_texts` meets its contract. What is left to write are the own bytes of the rows from the cursor's place on; each arm writes a block's. Assumes nothing.
-use Prim.Native.Nat.{◌-◌}
 use Rattle.predicate.proofs.Steps.{falls}
 use Rattle.columns.proofs.Walk.{walk_none, walk_more, walk-done, walk_same}
 use Rattle.text_columns.proofs.TextWalk.{texts-cut, run-texts, word-texts, list-texts}

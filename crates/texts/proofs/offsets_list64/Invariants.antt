@@ -1,5 +1,5 @@
 -- What the loops of `offsets_list64` keep, and their measures. Assumes nothing.
-use Rattle.std.proofs.Common.{◌+◌, ◌-◌, ◌*◌, ◌≤◌}
+use Rattle.std.proofs.Common.{◌-◌, ◌≤◌}
 use Rattle.format.specs.Bytes.{bytes_at}
 use Rattle.append.specs.Cells.{Among}
 use Rattle.texts.specs.Texts.{offset, Offsets}

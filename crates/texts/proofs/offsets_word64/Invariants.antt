@@ -1,5 +1,5 @@
 -- What the loops of `offsets_word64` keep, and their measures. Assumes nothing.
-use Rattle.std.proofs.Common.{◌+◌, ◌-◌, ◌*◌, ◌≤◌}
+use Rattle.std.proofs.Common.{◌≤◌}
 use Rattle.format.specs.Rows.{set_rows}
 use Rattle.append.specs.Cells.{Among}
 use Rattle.texts.specs.Texts.{offset, Offsets}

@@ -1,5 +1,5 @@
 -- What the loops of `texts_list` keep, and their measures. Assumes nothing.
-use Rattle.std.proofs.Common.{◌+◌, ◌-◌, ◌≤◌}
+use Rattle.std.proofs.Common.{◌-◌, ◌≤◌}
 use Rattle.format.specs.Bytes.{bytes_at}
 use Rattle.format.proofs.Put.{Left}
 use Rattle.append.specs.Cells.{Among}

@@ -1,5 +1,4 @@
 -- What the loops of `texts_word` keep, and their measures. Assumes nothing.
-use Rattle.std.proofs.Common.{◌+◌}
 use Rattle.format.specs.Rows.{set_rows}
 use Rattle.format.proofs.Put.{Left}
 use Rattle.append.specs.Cells.{Among}

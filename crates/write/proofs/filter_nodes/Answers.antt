@@ -1,12 +1,10 @@
 -- `write::filter_nodes` meets its contract. The loop's invariant: the first i nodes are written. Assumes nothing.
-use Prim.Native.Nat.{◌≤◌, ◌<◌, ◌-◌}
+use Prim.Native.Nat.{◌<◌}
 use mathlib.Core.Path.{◌≡◌, refl, sym, ◌∙◌}
 use native.Mathlib.Numerals.{add-one}
 use native.Mathlib.Omega.{arith}
 use Rattle.format.specs.Node.{node_count}
 use Rattle.format.proofs.Put.{same_size}
-use Rattle.nesting.specs.Rows.{picks_of}
-use Rattle.write.specs.Nodes.{NodesTo}
 use Rattle.write.proofs.NodeLaws.{nodes-none, node-room, nodes-more}
 use Rattle.write.proofs.filter_nodes.Goals as goal
 

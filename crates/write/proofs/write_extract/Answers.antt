@@ -6,7 +6,6 @@ use lib.Seq.{length-take-le}
 use Rattle.format.proofs.Measure.{length-numbers}
 use Rattle.measure.proofs.NodeEnd.{count-few}
 use Rattle.write.proofs.WholeLaws.{pad-fits, start_fits, table_fits, trailer-fits, whole}
-use borrow.Author.Rules.{rules}
 use Rattle.write.proofs.write_extract.Goals as goal
 
 pub node_count-n-requires : goal.node_count-n-requires

@@ -1,5 +1,4 @@
 -- `append::fields::put_bytes` meets its contract. What is left to write is `left` in the bytes that are left. Assumes nothing.
-use Prim.Native.Nat.{◌-◌}
 use native.Mathlib.Omega.{arith}
 use borrow.Author.Rules.{rules}
 use Rattle.format.proofs.Numbers.{to_le-none, to_le-more}

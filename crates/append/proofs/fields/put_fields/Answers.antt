@@ -1,5 +1,4 @@
 -- `append::fields::put_fields` meets its contract. What is left to write are the numbers from index i on. Assumes nothing.
-use Prim.Native.Nat.{◌-◌}
 use mathlib.Core.Path.{refl, ap, ◌∙◌}
 use native.Mathlib.Omega.{arith}
 use borrow.Author.Rules.{rules}

@@ -1,6 +1,5 @@
 -- `append::fields::put_zeros` meets its contract. What is left to write are as many zeros as places up to the end. Assumes nothing.
 use Rattle.append.proofs.CellLaws.{zeros-same, zeros-none, zeros-more}
-use Prim.Native.Nat.{◌-◌}
 use mathlib.Core.Path.{refl}
 use native.Mathlib.Omega.{arith}
 use borrow.Author.Rules.{rules}

@@ -1,5 +1,4 @@
 -- `checker::buffers::wrong_buffers` meets its contract: bad gathers the nodes below i. Assumes nothing.
-use Prim.Native.Nat.{◌-◌}
 use borrow.Author.Rules.{rules}
 use mathlib.Core.Path.{◌∙◌, ap, refl}
 use Rattle.content.proofs.Fold.{any-end, any-more, any-start}

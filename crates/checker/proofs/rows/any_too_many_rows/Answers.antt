@@ -1,10 +1,8 @@
 -- `checker::rows::any_too_many_rows` meets its contract: bad gathers the nodes below i. Assumes nothing.
-use Prim.Native.Nat.{◌-◌}
 use borrow.Author.Rules.{rules}
 use mathlib.Core.Path.{◌∙◌, ap, refl}
 use Rattle.content.proofs.Fold.{any-end, any-more, any-start}
 use Rattle.format.specs.Bytes.{any_below}
-use Rattle.format.specs.Node.{places}
 use Rattle.checker.proofs.rows.any_too_many_rows.Goals as goal
 
 pub loop-i-init : goal.loop-i-init

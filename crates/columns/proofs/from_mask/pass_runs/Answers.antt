@@ -1,5 +1,4 @@
 -- `columns::from_mask::pass_runs` meets its contract: the rows up to `place` are written; a turn writes a run's. Assumes nothing.
-use Prim.Native.Nat.{◌-◌}
 use mathlib.Core.Bool.{true}
 use mathlib.Core.Path.{◌≡◌, refl, sym, ◌∙◌}
 use native.Mathlib.Omega.{arith}

@@ -1,5 +1,4 @@
 -- `columns::from_mask::pass_words` meets its contract: the rows up to word w are written; a turn writes those of the words ahead. Assumes nothing.
-use Prim.Native.Nat.{◌-◌, ◌*◌}
 use mathlib.Core.Bool.{true}
 use mathlib.Core.Path.{◌≡◌, refl, sym, ◌∙◌}
 use native.Mathlib.Omega.{arith}

@@ -1,5 +1,5 @@
 -- `columns::from_mask::words_ahead` meets its contract: n words stand at the front; a turn adds the next. Assumes nothing.
-use Prim.Native.Nat.{◌+◌, ◌-◌, ◌*◌, ◌≤◌, ◌<◌}
+use Prim.Native.Nat.{◌+◌, ◌*◌, ◌≤◌, ◌<◌}
 use mathlib.Core.Bool.{and-eq-true_iff}
 use mathlib.Core.Path.{refl}
 use native.Mathlib.Omega.{arith}

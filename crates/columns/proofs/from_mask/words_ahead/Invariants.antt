@@ -1,5 +1,5 @@
 -- What the loops of `from_mask::words_ahead` keep, and their measures. Assumes nothing.
-use Prim.Native.Nat.{◌+◌, ◌-◌, ◌*◌}
+use Prim.Native.Nat.{◌-◌}
 use mathlib.Core.Path.{◌≡◌}
 use lib.ListN.{length}
 use Rattle.slots.specs.Source.{slot_of}

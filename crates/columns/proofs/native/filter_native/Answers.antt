@@ -1,5 +1,4 @@
 -- `columns::native::filter_native` meets its contract. What is left to write are the entries of the rows from the cursor's place on; each arm writes a block's. Assumes nothing.
-use Prim.Native.Nat.{◌-◌}
 use mathlib.Core.Path.{refl}
 use native.Mathlib.Omega.{arith}
 use Rattle.predicate.proofs.Steps.{falls}

@@ -1,5 +1,5 @@
 -- `content::keys::bad_keys64` meets its contract: bad gathers the keys below i. Assumes nothing.
-use Rattle.std.proofs.Common.{◌-◌, refl, rules}
+use Rattle.std.proofs.Common.{refl, rules}
 use Rattle.content.proofs.Fold.{any-end, any-more, any-start}
 use Rattle.content.proofs.Tests.{key-is}
 use Rattle.content.proofs.keys.bad_keys64.Goals as goal

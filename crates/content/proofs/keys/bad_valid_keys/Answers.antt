@@ -1,5 +1,5 @@
 -- `content::keys::bad_valid_keys` meets its contract: bad gathers the rows below i. Assumes nothing.
-use Rattle.std.proofs.Common.{◌-◌, sym, refl, ◌∙◌, rules}
+use Rattle.std.proofs.Common.{sym, refl, ◌∙◌, rules}
 use borrow.Author.Tests.{not-true}
 use Rattle.content.proofs.Fold.{any-end, any-more, any-start}
 use Rattle.content.proofs.Tests.{none-valid, number-inside, valid-is}

@@ -1,5 +1,5 @@
 -- `content::lists::bad_lists32` meets its contract: bad gathers the views below i. Assumes nothing.
-use Rattle.std.proofs.Common.{◌-◌, ◌^◌, refl, arith, rules}
+use Rattle.std.proofs.Common.{◌^◌, refl, arith, rules}
 use Rattle.content.proofs.Fold.{any-end, any-more, any-start}
 use Rattle.content.proofs.Tests.{range-is}
 use Rattle.content.proofs.lists.bad_lists32.Goals as goal

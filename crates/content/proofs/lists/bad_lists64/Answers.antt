@@ -1,5 +1,5 @@
 -- `content::lists::bad_lists64` meets its contract: the top bit gathers the views below i. Assumes nothing.
-use Rattle.std.proofs.Common.{◌-◌, ◌^◌, refl, ◌∙◌, arith, rules}
+use Rattle.std.proofs.Common.{◌^◌, refl, ◌∙◌, arith, rules}
 use Rattle.content.proofs.Fold.{any-end}
 use Rattle.content.proofs.Signs.{range-more}
 use Rattle.format.specs.Bytes.{any_below}

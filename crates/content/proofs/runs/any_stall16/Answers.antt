@@ -1,5 +1,5 @@
 -- `content::runs::any_stall16` meets its contract: bad gathers the ends below i that do not rise. Assumes nothing.
-use Rattle.std.proofs.Common.{◌-◌, refl, rules}
+use Rattle.std.proofs.Common.{refl, rules}
 use Rattle.content.proofs.Fold.{any-end, any-more, any-start}
 use Rattle.content.proofs.Tests.{stalls-is}
 use Rattle.content.proofs.runs.any_stall16.Goals as goal

@@ -1,5 +1,5 @@
 -- `content::views::bad_views` meets its contract: the views below i are right. Assumes nothing.
-use Rattle.std.proofs.Common.{◌+◌, ◌-◌, ◌*◌, false, sym, refl, ◌∙◌, rules}
+use Rattle.std.proofs.Common.{sym, refl, ◌∙◌, rules}
 use Rattle.format.proofs.Laws.{any_found}
 use Rattle.content.proofs.Fold.{any-start, any-more, any-end}
 use Rattle.content.proofs.views.bad_views.Goals as goal

@@ -1,7 +1,6 @@
 -- `kept_data::data::bytes_by_stretches` meets its contract. The loop's invariant: n is the bytes of the kept rows below r. Assumes nothing.
 use native.Mathlib.Omega.{arith}
 use borrow.Author.Rules.{rules}
-use Prim.Native.Nat.{◌-◌}
 use Rattle.nesting.proofs.Sieve.{node-few, len_is, len-fits, skip-fits, all-rows}
 use Rattle.stretches.proofs.Minding.{seen_none}
 use Rattle.stretches.proofs.Spanned.{bytes-none, bytes-passed}

@@ -2,8 +2,6 @@
 use native.Mathlib.Omega.{arith}
 use borrow.Author.Rules.{rules}
 use mathlib.Core.Path.{sym, ◌∙◌}
-use Prim.Native.Nat.{◌-◌}
-use mathlib.Core.Bool.{false}
 use Rattle.format.specs.Node.{valid}
 use Rattle.nesting.specs.Rows.{keeps}
 use Rattle.nesting.proofs.Sieve.{node-few, len_is, len-few, len-fits, skip-fits}

@@ -1,6 +1,6 @@
 -- `kept_data::root::bytes_at_root` meets its contract. The loop's invariant: n is the bytes of the rows picked in the first i words. Assumes nothing.
 use native.Mathlib.Omega.{arith}
-use Prim.Native.Nat.{◌-◌, ◌*◌}
+use Prim.Native.Nat.{◌*◌}
 use mathlib.Core.Path.{◌≡◌, ◌∙◌}
 use Rattle.slots.specs.Source.{word_at}
 use Rattle.slots.proofs.Reading.{slot-past}

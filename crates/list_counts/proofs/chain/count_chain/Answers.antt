@@ -1,5 +1,5 @@
 -- `list_counts::chain::count_chain` meets its contract. The loop's invariant: sum is what the rows picked in the first k words span. Assumes nothing.
-use Prim.Native.Nat.{◌+◌, ◌-◌, ◌*◌}
+use Prim.Native.Nat.{◌*◌}
 use mathlib.Core.Path.{◌≡◌, ◌∙◌}
 use native.Mathlib.Omega.{arith}
 use Rattle.slots.specs.Source.{word_at}

@@ -1,5 +1,4 @@
 -- What the loops of `chain::follow` keep, and their measures. Assumes nothing.
-use Prim.Native.Nat.{◌-◌}
 use mathlib.Core.Path.{◌≡◌}
 use Rattle.list_counts.specs.Chains.{followed, Reaches}
 use Rattle.list_counts.proofs.chain.follow.Given as goal

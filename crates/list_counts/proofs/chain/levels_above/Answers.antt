@@ -1,5 +1,4 @@
 -- `list_counts::chain::levels_above` meets its contract. The loop's invariant: the levels lead from node t's rows down to the node's. Assumes nothing.
-use Prim.Native.Nat.{◌-◌}
 use mathlib.Core.Path.{refl}
 use native.Mathlib.Omega.{arith}
 use Rattle.list_counts.proofs.Climbing.{climb-none, climb-more, climb-done, climb-failed, is-parent, low, up-low, up-inside}

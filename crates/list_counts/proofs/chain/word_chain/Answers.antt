@@ -1,5 +1,4 @@
 -- `list_counts::chain::word_chain` meets its contract. What `sum` lacks are the rows at the bits left in `rest`; a turn takes the lowest run. Assumes nothing.
-use Prim.Native.Nat.{◌+◌}
 use native.Mathlib.Omega.{arith}
 use borrow.Author.Rules.{rules}
 use Rattle.format.specs.Rows.{set_rows}

@@ -1,5 +1,5 @@
 -- `nesting::edges::count_runs` meets its contract. The loop's invariant: n counts the kept runs below j, and run j starts at lo. Assumes nothing.
-use Prim.Native.Nat.{suc, ◌≤◌, ◌-◌}
+use Prim.Native.Nat.{suc, ◌≤◌}
 use mathlib.Core.Bool.{and-eq-true_iff}
 use mathlib.Core.Path.{◌≡◌, ap, ◌∙◌}
 use native.Mathlib.Omega.{arith}

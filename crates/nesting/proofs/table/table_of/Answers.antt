@@ -1,7 +1,6 @@
 -- `nesting::table::table_of` meets its contract. The loop's invariant: the first j numbers of the table are read. Assumes nothing.
 use Rattle.nesting.proofs.Arrays.{holds-less, table-lies, table-read}
 use Rattle.pack.proofs.Stack.{holds-none, holds_more}
-use Prim.Native.Nat.{◌+◌, ◌*◌, ◌-◌}
 use mathlib.Core.Path.{refl}
 use native.Mathlib.Omega.{arith}
 use borrow.Author.Rules.{rules}

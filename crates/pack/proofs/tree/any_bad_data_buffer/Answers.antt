@@ -1,11 +1,9 @@
 -- `pack::tree::any_bad_data_buffer` meets its contract: bad gathers the nodes below i. Assumes nothing.
-use Prim.Native.Nat.{◌-◌}
 use borrow.Author.Rules.{rules}
 use mathlib.Core.Path.{◌∙◌, ap, refl}
 use native.Mathlib.Omega.{arith}
 use Rattle.content.proofs.Fold.{any-end, any-more, any-start}
 use Rattle.format.specs.Bytes.{any_below}
-use Rattle.format.specs.Verdict.{bad_data_buffer}
 use Rattle.pack.proofs.Closed.{data-buffer-is}
 use Rattle.pack.proofs.tree.any_bad_data_buffer.Goals as goal
 

@@ -1,5 +1,4 @@
 -- `pack::tree::any_root` meets its contract: bad gathers the nodes below i. Assumes nothing.
-use Prim.Native.Nat.{◌-◌}
 use borrow.Author.Rules.{rules}
 use mathlib.Core.Path.{refl}
 use Rattle.content.proofs.Fold.{any-end, any-more, any-start}

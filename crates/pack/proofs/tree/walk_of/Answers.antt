@@ -1,6 +1,6 @@
 -- `pack::tree::walk_of` meets its contract: the open nodes stand in the first d places. Assumes nothing.
 use Rattle.pack.specs.declared.Node.{Node}
-use Prim.Native.Nat.{◌-◌, ℕ}
+use Prim.Native.Nat.{ℕ}
 use lib.ListN.{length}
 use mathlib.Core.Path.{◌∙◌, ◌≡◌, ap, refl}
 use native.Mathlib.Omega.{arith}

@@ -1,6 +1,5 @@
 -- What the loops of `tree::walk_of` keep, and their measures. Assumes nothing.
 use Prim.Native.Nat.{◌-◌}
-use Rattle.format.specs.Node.{node_count}
 use Rattle.pack.proofs.Stack.{Walking}
 use Rattle.pack.proofs.tree.walk_of.Given as goal
 

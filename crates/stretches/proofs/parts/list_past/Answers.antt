@@ -1,5 +1,4 @@
 -- `stretches::parts::list_past` meets its contract. Assumes nothing.
-use Prim.Native.Nat.{◌-◌}
 use native.Mathlib.Omega.{arith}
 use Rattle.nesting.proofs.ListAt.{list-few, list-short, list-rows, rows_few}
 use Rattle.stretches.proofs.Places.{before_more, past-here, past_all}

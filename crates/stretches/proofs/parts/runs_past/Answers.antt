@@ -1,5 +1,4 @@
 -- `stretches::parts::runs_past` meets its contract. Assumes nothing.
-use Prim.Native.Nat.{◌-◌, ◌<◌}
 use native.Mathlib.Omega.{arith}
 use borrow.Author.Rules.{rules}
 use Rattle.nesting.proofs.RunEdges.{few, skip_is, skip-few, runs-are, runs-small}

@@ -1,6 +1,4 @@
 -- `stretches::parts::valid_to` meets its contract. Assumes nothing.
-use Prim.Native.Nat.{◌-◌}
-use mathlib.Core.Bool.{true}
 use mathlib.Core.Path.{sym, ◌∙◌}
 use native.Mathlib.Omega.{arith}
 use Rattle.format.proofs.SlotLaws.{all_none, all_more}

@@ -7,7 +7,6 @@ use Rattle.format.specs.Kept.{kept_rows}
 use Rattle.nesting.specs.Rows.{between, picks_of}
 use Rattle.nesting.proofs.Runs.{rows_from, rows_to}
 use Rattle.stretches.specs.Stretches.{Seen}
-use Prim.Native.Nat.{◌<◌}
 use Rattle.stretches.proofs.told.+told_told_list_told_run.Given as goal
 
 abbrev pub decreases-told : goal.decreases-told
