@@ -1,0 +1,11 @@
+-- What the loops of `push_word` keep, and their measures. Assumes nothing.
+use native.Mathlib.Omega.{arith}
+use borrow.Author.Rules.{rules}
+use Rattle.bitmaps.proofs.WordWalk.{Worded, word_none, word_more, word-done, word_fits}
+use Rattle.bitmaps.proofs.push_word.Given as goal
+
+abbrev pub invariant-loop-rest : goal.invariant-loop-rest
+invariant-loop-rest l = Worded l.values l.from l.base l.word l.initial.out l.initial.to l.out l.to l.rest
+
+abbrev pub decreases-loop-rest : goal.decreases-loop-rest
+decreases-loop-rest l = l.rest

@@ -1,0 +1,24 @@
+-- What the loops of `from_mask::pass_words` keep, and their measures. Assumes nothing.
+use Prim.Native.Nat.{◌-◌, ◌*◌}
+use mathlib.Core.Bool.{true}
+use mathlib.Core.Path.{◌≡◌, refl, sym, ◌∙◌}
+use native.Mathlib.Omega.{arith}
+use borrow.Author.Rules.{rules}
+use borrow.Author.Tests.{not-false}
+use lib.ListN.{length}
+use lib.Seq.{length-take-le}
+use Rattle.format.proofs.Put.{same_size}
+use Rattle.slots.specs.Source.{slot_of, Lies}
+use Rattle.predicate.specs.Selection.{lazy}
+use Rattle.predicate.proofs.Steps.{lazy-lies, lazy-kept}
+use Rattle.append.specs.Cells.{entries_of}
+use Rattle.columns.proofs.EntryWalk.{entries-cut}
+use Rattle.columns.proofs.Passing.{Passing, pass-nothing, pass-none, pass-room, pass-among, pass-more, pass-done, ahead-rows}
+use Rattle.columns.proofs.from_mask.pass_words.Given as goal
+
+abbrev pub invariant-loop-mask : goal.invariant-loop-mask
+invariant-loop-mask l =
+    (length l.words ≡ 16) × Passing (entries_of l.width l.journal l.first) (slot_of l.s l.mask) l.mask.len l.place l.initial.out l.at l.out l.here (64 * l.w)
+
+abbrev pub decreases-loop-mask : goal.decreases-loop-mask
+decreases-loop-mask l = l.mask.len - 64 * l.w

@@ -1,0 +1,20 @@
+-- What the loops of `root::null_at_root` keep, and their measures. Assumes nothing.
+use native.Mathlib.Omega.{arith}
+use borrow.Author.Rules.{rules}
+use Prim.Native.Nat.{◌+◌, ◌*◌, ◌-◌, ◌≤◌}
+use mathlib.Core.Bool.{false, not, ◌&&◌}
+use mathlib.Core.Logic.{⊎_elim}
+use mathlib.Core.Path.{◌≡◌, ◌∙◌}
+use Rattle.format.specs.Bytes.{bit_in}
+use Rattle.format.specs.Slots.{All}
+use Rattle.format.proofs.SlotLaws.{all_none}
+use Rattle.slots.specs.Source.{slot_of, word_at}
+use Rattle.slots.proofs.Reading.{slot-past}
+use Rattle.kept_data.proofs.Rooted.{null-here, null-not, null-end}
+use Rattle.kept_data.proofs.root.null_at_root.Given as goal
+
+abbrev pub invariant-loop-w : goal.invariant-loop-w
+invariant-loop-w l = (64 * l.w ≤ l.bits.len + 64) × All (λ j. slot_of l.mask l.bits j && not (bit_in l.journal (l.first + j))) false 0 (64 * l.w)
+
+abbrev pub decreases-loop-w : goal.decreases-loop-w
+decreases-loop-w l = l.bits.len - l.w

@@ -1,0 +1,16 @@
+-- What the loops of `filter_spans` keep, and their measures. Assumes nothing.
+use Rattle.std.proofs.Common.{◌-◌, ◌∙◌, arith, rules}
+use Rattle.format.proofs.Put.{same_size}
+use Rattle.predicate.specs.Selection.{kept_by}
+use Rattle.predicate.proofs.Steps.{falls}
+use Rattle.list_columns.specs.Spans.{reach}
+use Rattle.text_columns.proofs.TextWalk.{Summed, sum-none, sum_more, sum_done, sum_same, zero-fits, ends-fit, offsets-done}
+use Rattle.list_columns.proofs.SpanLaws.{run-spans, word-spans, list-spans}
+use Rattle.list_columns.proofs.filter_spans.Given as goal
+
+abbrev pub invariant-loop-a : goal.invariant-loop-a
+invariant-loop-a l =
+    Summed l.width (reach l.width l.journal l.first l.from) l.sel (kept_by l.sel l.s l.mask) l.mask.len l.list l.initial.out l.start l.out l.to.next l.to.sum l.cur
+
+abbrev pub decreases-loop-a : goal.decreases-loop-a
+decreases-loop-a l = l.mask.len - l.cur.place

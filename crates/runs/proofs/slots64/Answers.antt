@@ -1,0 +1,27 @@
+-- `runs::slots64` meets its contract: the word of the values, and of the validity where there is a bitmap. Assumes nothing.
+use Prim.Native.Nat.{◌+◌, ◌*◌, ◌≤◌}
+use mathlib.Core.Path.{◌∙◌}
+use native.Mathlib.Omega.{arith}
+use borrow.Author.Rules.{rules}
+use lib.ListN.{length}
+use Rattle.slots.proofs.Reading.{word-plain, word-valid}
+use Rattle.runs.proofs.slots64.Goals as goal
+use Rattle.runs.proofs.slots64.Goals.{Then-b}
+
+-- where there is a bitmap, its bits lie in the slice
+room : (c : Then-b) →
+    let a = c.args in
+    8 * a.b.validity_at + (a.b.skip + a.b.len) ≤ 8 * length a.s.now
+room c = c.requires.lies.validity c.if-b.true
+
+pub returns-then-b : goal.returns-then-b
+returns-then-b c = rw (c.load64-x.ensures, c.load64.ensures) (word-valid _ _ 64 _ c.if-b.true)
+
+pub overflow_mul-b-then-b : goal.overflow_mul-b-then-b
+overflow_mul-b-then-b c = omega (arith, room (goal.at.overflow_mul-b-then-b c).Then-b)
+
+pub overflow_add-b-then-b : goal.overflow_add-b-then-b
+overflow_add-b-then-b c = omega (arith, room (goal.at.overflow_add-b-then-b c).Then-b)
+
+pub returns : goal.returns
+returns c = c.load64-x.ensures ∙ word-plain _ _ 64 _ c.if-b.false

@@ -1,0 +1,18 @@
+-- What the loops of `filter_offsets64` keep, and their measures. Assumes nothing.
+use Prim.Native.Nat.{◌-◌}
+use mathlib.Core.Path.{◌∙◌}
+use native.Mathlib.Omega.{arith}
+use borrow.Author.Rules.{rules}
+use Rattle.format.proofs.Put.{same_size}
+use Rattle.predicate.specs.Selection.{kept_by}
+use Rattle.predicate.proofs.Steps.{falls}
+use Rattle.texts.specs.Texts.{offset}
+use Rattle.text_columns.proofs.TextWalk.{Summed, sum-none, sum_more, sum_done, sum_same, zero-fits, ends-fit, offsets-done, run-offsets, word-offsets, list-offsets}
+use Rattle.text_columns.proofs.filter_offsets64.Given as goal
+
+abbrev pub invariant-loop-a : goal.invariant-loop-a
+invariant-loop-a l =
+    Summed 8 (offset 8 l.journal l.first) l.sel (kept_by l.sel l.s l.mask) l.mask.len l.list l.initial.out l.from l.out l.to.next l.to.sum l.cur
+
+abbrev pub decreases-loop-a : goal.decreases-loop-a
+decreases-loop-a l = l.mask.len - l.cur.place

@@ -1,0 +1,16 @@
+-- What the loops of `filter_texts` keep, and their measures. Assumes nothing.
+use Prim.Native.Nat.{◌-◌}
+use borrow.Author.Rules.{rules}
+use Rattle.predicate.specs.Selection.{kept_by}
+use Rattle.predicate.proofs.Steps.{falls}
+use Rattle.texts.specs.Texts.{start_in, texts_of}
+use Rattle.columns.proofs.Walk.{Walked, walk_none, walk_more, walk-done, walk_same}
+use Rattle.text_columns.proofs.TextWalk.{texts-cut, run-texts, word-texts, list-texts}
+use Rattle.text_columns.proofs.filter_texts.Given as goal
+
+abbrev pub invariant-loop-a : goal.invariant-loop-a
+invariant-loop-a l =
+    Walked (texts_of (start_in l.u l.w l.journal l.first) l.journal l.start) l.sel (kept_by l.sel l.s l.mask) l.mask.len l.list l.initial.out l.at l.out l.here l.cur
+
+abbrev pub decreases-loop-a : goal.decreases-loop-a
+decreases-loop-a l = l.mask.len - l.cur.place
