@@ -1,4 +1,6 @@
 // Bitmaps of picked rows: filter_bits, by compress or by blocks.
+#![tactic(auto)]
+
 ghost use Rattle.std.specs.Prelude.{◌≡◌, ◌+◌, ◌-◌, ◌*◌, ◌/◌, ◌^◌, ◌≤◌, ◌<◌, length, map, ◌++◌};
 ghost use Rattle.format.specs.Bytes.{to_le, bytes_at, bytes_for, packed};
 ghost use Rattle.format.specs.Slots.{picks_from, count_up};

@@ -1,4 +1,6 @@
 // Bits of 64-bit words: compress, and the packer that puts the bits picked of one word after another into full words.
+#![tactic(auto)]
+
 ghost use Rattle.std.specs.Prelude.{◌≡◌, ◌+◌, ◌*◌, ◌^◌, ◌≤◌, ◌<◌};
 ghost use Rattle.format.specs.Words.{compress};
 ghost use Rattle.bits.specs.Fours.{four_of, count_of, Table};

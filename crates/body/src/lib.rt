@@ -1,4 +1,6 @@
 // One node of an extract: its buffers behind the body so far, and its ten fields.
+#![tactic(auto)]
+
 ghost use Rattle.std.specs.Prelude.{◌≡◌, true, map, ◌∷◌, [], suc, ◌+◌, ◌*◌, ◌≤◌, ◌<◌, length};
 ghost use Rattle.format.specs.Accepted.{Sound, Nests};
 ghost use Rattle.format.specs.Kept.{kept_node, kept_rows, kept_spans};

@@ -1,4 +1,6 @@
 // One buffer of an extract, behind the body so far: padding to a multiple of 8, then what the kept rows give.
+#![tactic(auto)]
+
 ghost use Rattle.std.specs.Prelude.{map, ◌+◌, ◌^◌, ◌≤◌, ◌<◌, length};
 ghost use Rattle.format.specs.Bytes.{packed};
 ghost use Rattle.format.specs.Write.{holds, numbers, offsets};

@@ -1,4 +1,6 @@
 // The C entry points: include/wurtziteloom.h says what each argument and answer is. None requires anything of its caller.
+#![tactic(auto)]
+
 ghost use Rattle.std.specs.Prelude.{◌≡◌};
 ghost use Rattle.format.specs.Answer.{call_of, preparing, stated_if};
 ghost use Rattle.format.specs.Verdict.{journal_verdict, mask_verdict};

@@ -1,5 +1,7 @@
 // Cases in text, one to a line: a name, then parts of words that give bytes. A part ends at | or at the line's end.
 // Words: 12 is a number of four bytes, b12 one byte, *12 the forty bytes before it twelve times more.
+#![tactic(auto)]
+
 ghost use Rattle.std.specs.Prelude.{◌≡◌, ◌*◌, ◌^◌, ◌≤◌, ◌<◌, length, take};
 ghost use Rattle.case_text.specs.Places.{name_end, part_end, line_end};
 ghost use Rattle.case_text.specs.Words.{Front, put_byte, put_number, put_again, put_word, read_byte, read_so_far, part_bytes};

@@ -1,4 +1,6 @@
 // The checker: a pack is accepted, or refused by one number.
+#![tactic(auto)]
+
 mod buffers;
 mod contents;
 mod fields;

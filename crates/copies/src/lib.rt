@@ -1,4 +1,6 @@
 // Copies of any length by whole words: two moves that may overlap, or moves of 32 bytes of which the last may. No byte goes by itself.
+#![tactic(auto)]
+
 ghost use Rattle.std.specs.Prelude.{◌+◌, ◌≤◌, ◌<◌, length};
 ghost use Rattle.format.specs.Put.{Wrote};
 ghost use Rattle.format.specs.Bytes.{bytes_at};

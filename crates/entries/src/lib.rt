@@ -1,4 +1,6 @@
 // The work of the C entry points: each call, with its answer in numbers. None requires anything of its caller.
+#![tactic(auto)]
+
 ghost use Rattle.std.specs.Prelude.{◌≡◌};
 ghost use Rattle.format.specs.Answer.{call_of, preparing, stated_if};
 ghost use Rattle.format.specs.Verdict.{journal_verdict, mask_verdict};

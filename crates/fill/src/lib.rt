@@ -1,4 +1,6 @@
 // The bitmaps of kept rows in scratch: for the child of each runs node and list a bit for each of its rows, whether it is kept.
+#![tactic(auto)]
+
 ghost use Rattle.std.specs.Prelude.{◌≡◌, cond, ◌+◌, ◌≤◌, ◌<◌, suc, length, replicate, take};
 ghost use Rattle.format.specs.Bytes.{bytes_for, packed, over};
 ghost use Rattle.format.specs.Node.{node_count, rows};

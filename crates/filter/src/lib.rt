@@ -1,4 +1,6 @@
 // The public call: a mask and a journal in, the extract or one numbered refusal out.
+#![tactic(auto)]
+
 ghost use Rattle.std.specs.Prelude.{◌≡◌, ◌&&◌, ltb, length};
 ghost use Rattle.format.specs.Mask.{route_of, entries};
 ghost use Rattle.format.specs.Verdict.{mask_verdict};

@@ -1,4 +1,6 @@
 // The types that the code and the definitions of the format (docs/FORMAT.md) share. Their meaning is in specs/.
+#![tactic(auto)]
+
 ghost use Rattle.std.specs.Prelude.{◌≡◌, ◌≤◌};
 ghost use Rattle.format.specs.Mask.{route_of, route_number};
 ghost use Rattle.format.specs.Verdict.{row_limit};

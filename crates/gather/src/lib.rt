@@ -1,5 +1,7 @@
 // Entries of a width, of the rows that a block gives, behind what the output holds: of a run, of the set bits of words, of a part of a list. Each
 // width of a native column has a loop of its own, so that an entry is one load and one store.
+#![tactic(auto)]
+
 ghost use Rattle.std.specs.Prelude.{◌+◌, ◌-◌, ◌*◌, ◌^◌, ◌<◌, ◌≤◌, length};
 ghost use Rattle.format.specs.Bytes.{bytes_at};
 ghost use Rattle.format.specs.Put.{Wrote};

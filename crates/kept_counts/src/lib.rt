@@ -1,4 +1,6 @@
 // How many rows each node keeps, without a buffer: by the mask's words where it can be, and else by stretches.
+#![tactic(auto)]
+
 ghost use Rattle.std.specs.Prelude.{◌≡◌, true, ◌<◌, suc, length};
 ghost use Rattle.format.specs.Node.{node_count, has_no_bitmap};
 ghost use Rattle.format.specs.Kept.{kept_rows};

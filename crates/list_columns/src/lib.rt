@@ -1,5 +1,7 @@
 // Lists of way points, kinds 13 and 14, where a kept row is null: the offsets of the kept rows rebuilt from 0, a null row with no child row. Where none is null the
 // offsets are rebuilt as those of byte columns are (`text_columns::filter_offsets32` and `64`).
+#![tactic(auto)]
+
 ghost use Rattle.std.specs.Prelude.{◌≡◌, suc, ◌+◌, ◌-◌, ◌*◌, ◌^◌, ◌<◌, ◌≤◌, length};
 ghost use Rattle.format.specs.Bytes.{bytes_at, to_le};
 ghost use Rattle.format.specs.Put.{Wrote};

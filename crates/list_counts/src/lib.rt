@@ -1,5 +1,7 @@
 // How many child rows a list hands on where it keeps the mask's own rows: by the words of the mask and of its validity, and by the runs within a word; and below
 // lists without a bitmap, by the mask's words too.
+#![tactic(auto)]
+
 ghost use Rattle.std.specs.Prelude.{◌≡◌, length};
 ghost use Rattle.format.specs.Node.{rows};
 ghost use Rattle.format.specs.Kept.{kept_spans};

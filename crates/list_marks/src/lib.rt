@@ -1,5 +1,7 @@
 // The child rows of a list's picked rows, as a bitmap in scratch: by the words of the source that picks, and by the runs within a word. The source
 // is the mask, or a bitmap in scratch before the one that is written.
+#![tactic(auto)]
+
 ghost use Rattle.std.specs.Prelude.{◌≡◌, true, cond, ◌&&◌, ◌∷◌, [], ◌+◌, ◌-◌, ◌*◌, ◌^◌, ◌≤◌, suc, length, take};
 ghost use Rattle.format.specs.Bytes.{bytes_for, packed};
 ghost use Rattle.format.specs.Node.{rows, valid, first_number};

@@ -1,4 +1,6 @@
 // Ranges of bits set in a slice of bytes, bit 0 of a byte first.
+#![tactic(auto)]
+
 ghost use Rattle.std.specs.Prelude.{◌+◌, ◌-◌, ◌*◌, ◌≤◌, ◌<◌, length, replicate};
 ghost use Rattle.format.specs.Bytes.{within};
 ghost use Rattle.format.specs.Put.{Wrote};

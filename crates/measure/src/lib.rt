@@ -1,4 +1,6 @@
 // The measure of an extract: how many rows each node keeps, how long the extract is, and how much scratch it takes.
+#![tactic(auto)]
+
 mod size;
 
 ghost use Rattle.std.specs.Prelude.{◌≡◌, cond, [], ◌+◌, ◌*◌, ◌^◌, ◌≤◌, ◌<◌, suc, eqb, length, get_or};

@@ -1,4 +1,6 @@
 // The body of one node of an extract: its bitmap, first and second buffer behind the body so far.
+#![tactic(auto)]
+
 ghost use Rattle.std.specs.Prelude.{◌≡◌, true, map, suc, ◌+◌, ◌≤◌, length};
 ghost use Rattle.format.specs.Accepted.{Nests};
 ghost use Rattle.format.specs.Kept.{kept_node, kept_spans};

@@ -1,4 +1,6 @@
 // One node of an extract: its bitmap, first and second buffer, each behind the body so far, padded to a multiple of 8.
+#![tactic(auto)]
+
 ghost use Rattle.std.specs.Prelude.{◌≡◌, map, true, suc, ◌+◌, ◌*◌, ◌≤◌, length};
 ghost use Rattle.format.specs.Accepted.{Nests};
 ghost use Rattle.format.specs.Kept.{cells, kept_spans};

@@ -1,4 +1,6 @@
 // Packs: reading trailer and nodes out of any bytes; the tree that the nodes write.
+#![tactic(auto)]
+
 pub mod frame;
 pub mod read;
 pub mod tree;

@@ -1,4 +1,6 @@
 // From a mask's bits to the rows that every column filter takes: the selection, and blocks of kept rows.
+#![tactic(auto)]
+
 ghost use Rattle.std.specs.Prelude.{◌≡◌, ◌+◌, ◌*◌, ◌/◌, ◌<◌, ◌≤◌};
 ghost use Rattle.slots.specs.Source.{slot_of, Lies};
 ghost use Rattle.predicate.specs.Selection.{InStep, kept_by, Readable, selection_for, lazy};

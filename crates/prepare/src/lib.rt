@@ -1,4 +1,6 @@
 // A mask prepared alone: where its bits stand, whether a stated count is right, and the answer, with the list stored where it is asked for.
+#![tactic(auto)]
+
 ghost use Rattle.std.specs.Prelude.{◌≡◌};
 ghost use Rattle.format.specs.Verdict.{mask_verdict};
 ghost use Rattle.format.specs.Answer.{unstated, stated_if, wrong_count, preparing, Prepares};

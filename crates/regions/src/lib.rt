@@ -1,4 +1,6 @@
 // Which rows each node keeps, as a selection that the column filters take.
+#![tactic(auto)]
+
 ghost use Rattle.std.specs.Prelude.{◌≡◌, false, ◌<◌};
 ghost use Rattle.format.specs.Node.{node_count};
 ghost use Rattle.nesting.specs.Rows.{by_offsets, picks_of};

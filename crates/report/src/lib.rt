@@ -1,4 +1,6 @@
 // The line that the program `extract` prints of an answer.
+#![tactic(auto)]
+
 ghost use Rattle.std.specs.Prelude.{◌+◌, ◌≤◌, ◌++◌, length};
 ghost use Rattle.format.specs.Put.{Wrote};
 ghost use Rattle.report.specs.Report.{decimal, most_digits, route_name, pack_name, longest_name, line_of, line_room};

@@ -1,4 +1,6 @@
 // The bitmap of the runs of a runs node that have a picked slot, in scratch: eight runs a byte, each run's range of slots asked once.
+#![tactic(auto)]
+
 ghost use Rattle.std.specs.Prelude.{◌≡◌, cond, ◌+◌, ◌-◌, ◌≤◌, suc, length, take};
 ghost use Rattle.format.specs.Bytes.{bytes_for, packed};
 ghost use Rattle.format.specs.Node.{rows};

@@ -1,4 +1,6 @@
 // The run ends of a runs node's kept rows (filter.rs: filter_run_end_array), and how many rows of a range a selection keeps.
+#![tactic(auto)]
+
 ghost use Rattle.std.specs.Prelude.{true, [], ◌∷◌, ◌≡◌, ◌+◌, ◌-◌, ◌≤◌, min, length};
 ghost use Rattle.format.specs.Bytes.{le, to_le};
 ghost use Rattle.format.specs.Put.{Wrote};

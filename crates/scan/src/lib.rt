@@ -1,4 +1,6 @@
 // The scan over the words of a bit source: its next run of picked slots, its next picked slot, and whether a range has one.
+#![tactic(auto)]
+
 ghost use Rattle.std.specs.Prelude.{◌≡◌, ◌+◌, ◌-◌, ◌*◌, ◌<◌, ◌≤◌, true};
 ghost use Rattle.format.specs.Slots.{runs_from, Sought};
 ghost use Rattle.slots.specs.Source.{slot_of, Lies};

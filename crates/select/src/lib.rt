@@ -1,4 +1,6 @@
 // From an accepted mask's bits to the written extract: the selection, its list where it is asked for, scratch filled and cleared again.
+#![tactic(auto)]
+
 ghost use Rattle.std.specs.Prelude.{◌≡◌, cond, [], ◌≤◌, length, replicate};
 ghost use Rattle.format.specs.Bytes.{over};
 ghost use Rattle.format.specs.Node.{node_count, rows};

@@ -1,4 +1,6 @@
 // The maximal runs of picked slots, one after another: a reader over the mask's bytes.
+#![tactic(auto)]
+
 ghost use Rattle.std.specs.Prelude.{◌≡◌, length};
 ghost use Rattle.format.specs.Slots.{runs_from};
 ghost use Rattle.slots.specs.Source.{slot_of, Lies};

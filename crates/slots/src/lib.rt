@@ -1,4 +1,6 @@
 // Bit sources: packed bits with an optional validity bitmap in a lent slice of bytes, read by slot, by word and by window, and counted.
+#![tactic(auto)]
+
 ghost use Rattle.std.specs.Prelude.{not, ◌&&◌, ◌≡◌, ◌+◌, ◌*◌, ◌-◌, ◌/◌, ◌%◌, ◌^◌, ◌≤◌, ◌<◌, length, get_or};
 ghost use Rattle.format.specs.Bytes.{bit_in, bit_at, chosen};
 ghost use Rattle.format.specs.Slots.{after, word_from, picks_from};

@@ -1,4 +1,6 @@
 // What lies between the offsets of rows, summed over the rows of a word: the bytes of texts, the child rows of lists.
+#![tactic(auto)]
+
 ghost use Rattle.std.specs.Prelude.{◌≡◌, true, ◌∷◌, [], ◌^◌, ◌<◌};
 ghost use Rattle.format.specs.Rows.{set_rows};
 ghost use Rattle.format.specs.Verdict.{one_of};

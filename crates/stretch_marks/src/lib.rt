@@ -1,4 +1,6 @@
 // The bitmap of the rows that a node keeps, in scratch: zeros, then each stretch of kept rows marked at once.
+#![tactic(auto)]
+
 ghost use Rattle.std.specs.Prelude.{◌≡◌, ◌+◌, ◌*◌, ◌≤◌, ◌<◌, length};
 ghost use Rattle.format.specs.Bytes.{bytes_for, packed};
 ghost use Rattle.format.specs.Node.{node_count, rows};

@@ -1,4 +1,6 @@
 // Which rows each node keeps, without a buffer: stretch by stretch of rows that are alike.
+#![tactic(auto)]
+
 mod parts;
 pub mod told;
 

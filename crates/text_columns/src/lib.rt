@@ -1,5 +1,7 @@
 // Rows with own bytes (filter_bytes): offsets rebuilt from 0, and the own bytes of the kept rows. Those of kinds 4 and 5; and of a list, whose rows have the entries of
 // its child.
+#![tactic(auto)]
+
 ghost use Rattle.std.specs.Prelude.{◌≡◌, ◌+◌, ◌≤◌, length};
 ghost use Rattle.format.specs.Put.{Wrote};
 ghost use Rattle.format.specs.Slots.{picks_from};

@@ -1,4 +1,6 @@
 // Rows with own bytes: the bytes of the rows that a block gives, and their offsets rebuilt, which a running sum carries from block to block.
+#![tactic(auto)]
+
 ghost use Rattle.std.specs.Prelude.{◌≡◌, suc, ◌+◌, ◌-◌, ◌*◌, ◌^◌, ◌<◌, ◌≤◌, ◌⊎◌, length};
 ghost use Rattle.format.specs.Bytes.{bytes_at};
 ghost use Rattle.format.specs.Put.{Wrote};

@@ -1,4 +1,6 @@
 // Numbers of 2, 4 and 8 bytes, and entries, as whole words: each number is one load or one store.
+#![tactic(auto)]
+
 ghost use Rattle.std.specs.Prelude.{◌≡◌, ◌+◌, ◌*◌, ◌<◌, ◌≤◌, length};
 ghost use Rattle.format.specs.Put.{Wrote};
 ghost use Rattle.format.specs.Bytes.{le, to_le, bytes_at};

@@ -1,4 +1,6 @@
 // A whole extract: the nodes one after another, then the table and the trailer.
+#![tactic(auto)]
+
 ghost use Rattle.std.specs.Prelude.{◌≡◌, ◌∷◌, [], ◌+◌, ◌≤◌, length};
 ghost use Rattle.format.specs.Node.{node_count, mark};
 ghost use Rattle.format.specs.Put.{Wrote};
