@@ -1,9 +1,9 @@
 -- The child rows that a list hands on: where the offsets do not fall they are rising, and told by a test of each child row. Assumes nothing.
 use Rattle.std.proofs.Common.{◌≡◌, ℕ, zero, suc, ◌+◌, ◌-◌, ◌<◌, ◌≤◌, Bool, true, false, cond, ◌&&◌, ◌||◌, ltb, leb, List, [], ◌∷◌, ◌++◌, map, length, sym, refl, ap, ◌∙◌, ap₂, append-nil, add-zero, add-suc, suc-add, zero-add, arith, le-ltb, lt-ltb, le-leb}
-use mathlib.Core.Bool.{and-false, or-false}
+use mathlib.Core.Bool.{and-false}
 use borrow.Author.Tests.{lt-leb}
 use Rattle.format.specs.Bytes.{join, chosen}
-use Rattle.format.specs.Slots.{pick, picks_from, count_up, All}
+use Rattle.format.specs.Slots.{pick, picks_from, count_up}
 use Rattle.format.specs.Node.{rows, valid, first_number, child}
 use Rattle.format.specs.Kept.{span_size, span, kept_spans}
 use Rattle.format.specs.Accepted.{Spans}

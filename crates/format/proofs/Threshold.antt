@@ -1,7 +1,7 @@
 -- The route's test on floats is one of whole numbers: for a length l and a count c from 1 to `row_limit`, `c as f64 / l as f64 > 0.8` exactly where 4 * l < 5 * c.
 -- The quotient is c / l rounded once, and 0.8 is 4 / 5 rounded. Rounding keeps the order, so a quotient up to 4 / 5 rounds to 0.8 at most.
 -- One above 4 / 5 is (4 * row_limit + 1) / (5 * row_limit) or more, and that rounds to a float above 0.8, as antt computes. Assumes nothing.
-use Rattle.std.proofs.Common.{◌≡◌, ℕ, ◌+◌, ◌*◌, ◌^◌, ◌<◌, ◌≤◌, Bool, true, false, T, ltb, pos, sym, refl, ap, ◌∙◌, mul_assoc, mul_comm, mul-pos, lt_of_not-le, ne_of_gt, mul-one, mul_left_comm, arith, lit<, le→leb, ltb→lt, le-ltb, lt-ltb, ne_eqb}
+use Rattle.std.proofs.Common.{◌≡◌, ℕ, ◌+◌, ◌*◌, ◌^◌, ◌<◌, ◌≤◌, Bool, true, false, T, ltb, pos, sym, refl, ◌∙◌, mul_assoc, mul_comm, mul-pos, lt_of_not-le, ne_of_gt, mul-one, mul_left_comm, arith, lit<, le→leb, ltb→lt, le-ltb, lt-ltb, ne_eqb}
 use mathlib.Core.Logic.{dite}
 use native.Mathlib.Decide.{dec_le}
 use lib.Ieee.{Float, fin, binary64, round, div, lt, le, in_float, of_int, of_bits}

@@ -1,19 +1,17 @@
 -- Data bytes of a node's kept rows, row by row, and where their offsets stand. Assumes nothing.
 use Prim.Native.Nat.{ℕ, zero, suc, ◌+◌, ◌-◌, ◌*◌, ◌≤◌, ◌<◌}
-use mathlib.Core.Bool.{Bool, true, false, cond}
-use mathlib.Core.List.{List, [], ◌∷◌, map, map-append, append-nil}
+use mathlib.Core.Bool.{true}
+use mathlib.Core.List.{List, map}
 use mathlib.Core.Path.{◌≡◌, refl, sym, ap, ◌∙◌}
 use native.Mathlib.Numerals.{add-one}
-use native.Mathlib.Nat.{add-zero, mul-add, mul-suc, mul-le-mul_left}
+use native.Mathlib.Nat.{mul-add, mul-suc, mul-le-mul_left}
 use native.Mathlib.Omega.{arith}
-use lib.ListN.{length, get_or, length-append, length-take, length-drop}
+use lib.ListN.{length, get_or, length-take, length-drop}
 use Rattle.format.specs.Bytes.{chosen, join, bytes_at, le}
-use Rattle.format.specs.Slots.{All}
 use Rattle.format.specs.Node.{node_count, rows, skip, places, first_at, second_length, first_number}
 use Rattle.format.specs.Verdict.{pack_limit}
 use Rattle.format.specs.Kept.{own_bytes}
 use Rattle.format.specs.Accepted.{Sound, Offsets}
-use Rattle.format.proofs.Laws.{join-append}
 use Rattle.nesting.specs.Rows.{Ready, keeps}
 use Rattle.stretches.specs.Stretches.{Alike}
 use Rattle.stretches.proofs.Spanned.{bytes-spanned}

@@ -1,5 +1,5 @@
 -- The sizes of list rows as offsets of their own: what the writer of a row and of each form of block asks. Assumes nothing.
-use Rattle.std.proofs.Common.{◌≡◌, ℕ, zero, suc, ◌+◌, ◌-◌, ◌*◌, ◌^◌, ◌<◌, ◌≤◌, Bool, true, false, cond, List, ◌∷◌, length, sym, refl, ap, ◌∙◌, le_refl, arith}
+use Rattle.std.proofs.Common.{◌≡◌, ℕ, zero, suc, ◌+◌, ◌-◌, ◌*◌, ◌^◌, ◌<◌, ◌≤◌, Bool, true, false, cond, List, ◌∷◌, length, sym, ◌∙◌, le_refl, arith}
 use Rattle.format.specs.Bytes.{sum_below, bit_in, bytes_at, le}
 use Rattle.format.specs.Slots.{count_up, picks_from}
 use Rattle.format.specs.Write.{numbers}
@@ -10,7 +10,7 @@ use Rattle.predicate.specs.declared.Block.TheVariants.{Run, Listed}
 use Rattle.predicate.specs.Blocks.{Blocked, Gives}
 use Rattle.append.specs.Cells.{Among}
 use Rattle.append.proofs.CellLaws.{among_first}
-use Rattle.texts.specs.Texts.{offset, size, sizes_of, ends_from, total_of, Offsets}
+use Rattle.texts.specs.Texts.{offset, size, sizes_of, ends_from, total_of}
 use Rattle.texts.proofs.TextLaws.{Rises, rises, risen, offsets-fewer, offset-next}
 use Rattle.texts.proofs.NodeLaws.{total-chosen}
 use Rattle.columns.proofs.Walk.{among}

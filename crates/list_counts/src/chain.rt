@@ -1,6 +1,6 @@
 // Lists one below another, from the mask's own rows down and none with a bitmap: a run of picked rows hands on one range at each level, from where its first row
 // starts to where the row behind its last would. So the rows of the innermost child are counted by the mask's words and their runs.
-ghost use Rattle.std.specs.Prelude.{◌≡◌, ◌^◌, ◌≤◌, ◌<◌};
+ghost use Rattle.std.specs.Prelude.{◌≡◌, ◌^◌, ◌<◌};
 ghost use Rattle.format.specs.Node.{node_count, rows};
 ghost use Rattle.format.specs.Rows.{set_rows, Below};
 ghost use Rattle.slots.specs.Source.{Lies};

@@ -2,7 +2,7 @@
 // is the mask, or a bitmap in scratch before the one that is written.
 #![tactic(auto)]
 
-ghost use Rattle.std.specs.Prelude.{◌≡◌, true, cond, ◌&&◌, ◌∷◌, [], ◌+◌, ◌-◌, ◌*◌, ◌^◌, ◌≤◌, suc, length, take};
+ghost use Rattle.std.specs.Prelude.{◌≡◌, true, cond, ◌&&◌, ◌∷◌, [], ◌+◌, ◌-◌, ◌*◌, ◌≤◌, suc, length, take};
 ghost use Rattle.format.specs.Bytes.{bytes_for, packed};
 ghost use Rattle.format.specs.Node.{rows, valid, first_number};
 ghost use Rattle.format.specs.Rows.{set_rows};

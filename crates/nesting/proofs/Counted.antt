@@ -1,18 +1,18 @@
 -- How many rows a node keeps by its parent's kind. Assumes nothing.
-use Prim.Native.Nat.{ℕ, suc, ◌+◌, ◌*◌, ◌<◌, ◌≤◌}
+use Prim.Native.Nat.{ℕ, ◌+◌, ◌*◌, ◌<◌, ◌≤◌}
 use mathlib.Core.List.{List, [], ◌∷◌}
 use mathlib.Core.Path.{◌≡◌, refl, sym, ap, ◌∙◌}
 use native.Mathlib.Omega.{arith}
 use lib.ListN.{length, get_or}
 use Rattle.format.specs.declared.Kind.TheVariants.{Runs}
 use Rattle.format.specs.Node.{node_count, kind_number, kind, rows, parent}
-use Rattle.format.specs.Kept.{kept_rows, kept_spans, carried}
+use Rattle.format.specs.Kept.{kept_rows, carried}
 use Rattle.format.specs.Accepted.{Shares, Carries, Nests}
 use Rattle.format.proofs.Laws.{length-table, kept-root}
 use Rattle.nesting.specs.Rows.{Ready, AtRuns, AtList, Counts}
 use Rattle.nesting.proofs.Arrays.{holds-less}
 use Rattle.nesting.proofs.ByKind.{of_struct, of-union, of-runs, of-nested32, of-nested64, not-shared, of_others, kind_at, rows_at}
-use Rattle.nesting.proofs.Tree.{kept-shared, kept-carried, kept-spans-of, run-child}
+use Rattle.nesting.proofs.Tree.{kept-shared, kept-carried}
 
 -- with more nodes counted than are asked for
 pub ready_at : {b root table parents counts : List ℕ} {n k : ℕ} → Ready b root table parents counts n → k ≤ n → Ready b root table parents counts k

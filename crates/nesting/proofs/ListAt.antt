@@ -1,16 +1,15 @@
 -- A list node by the table as numbers: where its offsets and validity bits stand, and the search for a row by them. Assumes nothing.
-use Prim.Native.Nat.{ℕ, zero, suc, ◌+◌, ◌-◌, ◌*◌, ◌/◌, ◌≤◌, ◌<◌}
+use Prim.Native.Nat.{ℕ, zero, suc, ◌+◌, ◌-◌, ◌*◌, ◌≤◌, ◌<◌}
 use mathlib.Core.Bool.{Bool, true, false}
 use mathlib.Core.List.{List, [], ◌∷◌}
 use mathlib.Core.Path.{◌≡◌, refl, sym, ap, ◌∙◌}
 use native.Mathlib.Nat.{add_assoc, mul-suc, mul-le-mul_left}
 use native.Mathlib.Omega.{arith}
 use borrow.Author.Tests.{eq-eqb, ne_eqb}
-use lib.Dec.{lit≤}
 use lib.ListN.{length, get_or}
 use Rattle.format.specs.declared.Kind.{Kind}
-use Rattle.format.specs.Bytes.{le, bit_in, bit_at, bytes_for}
-use Rattle.format.specs.Node.{table_start, node_count, kind, rows, skip, places, first_at, validity_at, no_bitmap, has_no_bitmap, valid, first_number}
+use Rattle.format.specs.Bytes.{le, bit_in, bit_at}
+use Rattle.format.specs.Node.{node_count, kind, rows, skip, places, first_at, validity_at, no_bitmap, has_no_bitmap, valid, first_number}
 use Rattle.format.specs.Node.{parent}
 use Rattle.format.specs.Kept.{kept_rows, kept_spans}
 use Rattle.format.specs.Verdict.{pack_limit, one_of}

@@ -1,5 +1,5 @@
 // The runs of a runs node that keeps the root's rows: each is a range of the mask's slots.
-ghost use Rattle.std.specs.Prelude.{◌≡◌, ◌+◌, ◌≤◌, ◌<◌, suc, length};
+ghost use Rattle.std.specs.Prelude.{◌≡◌, ◌+◌, ◌<◌, suc, length};
 ghost use Rattle.format.specs.Node.{rows};
 ghost use Rattle.format.specs.Kept.{kept_rows};
 ghost use Rattle.slots.specs.Source.{Lies};

@@ -2,7 +2,7 @@
 ghost use Rattle.std.specs.Prelude.{◌≡◌, true, ◌&&◌, ◌||◌, eqb, ◌∷◌, [], ◌+◌, ◌*◌, ◌^◌, ◌≤◌, ◌<◌, min, suc, length};
 ghost use Rattle.std.specs.Int.Bits.{bit_and};
 ghost use Rattle.format.specs.Bytes.{le};
-ghost use Rattle.format.specs.Node.{table_start, node_count, no_bitmap, rows, valid, first_number, run_end, run_start};
+ghost use Rattle.format.specs.Node.{node_count, no_bitmap, rows, valid, first_number, run_end, run_start};
 ghost use Rattle.format.specs.Slots.{word_from};
 ghost use Rattle.format.specs.Verdict.{one_of};
 ghost use Rattle.format.specs.Accepted.{Shape};

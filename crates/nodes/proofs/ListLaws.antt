@@ -1,6 +1,6 @@
 -- The first buffer of a list's kept rows as the writers write it, and that its rows lie in the journal. Assumes nothing.
-use Prim.Native.Nat.{ℕ, suc, ◌+◌, ◌*◌, ◌-◌, ◌^◌, ◌≤◌, ◌<◌}
-use mathlib.Core.Bool.{true, false, cond}
+use Prim.Native.Nat.{ℕ, suc, ◌+◌, ◌*◌, ◌-◌, ◌≤◌}
+use mathlib.Core.Bool.{true, false}
 use mathlib.Core.List.{List, [], ◌∷◌, ◌++◌, map, map_congr_left}
 use mathlib.Core.Logic.{◌⊎◌, inl, inr}
 use mathlib.Core.Path.{◌≡◌, refl, sym, ap, ap₂, ◌∙◌}
@@ -11,7 +11,7 @@ use lib.ListN.{length}
 use Rattle.format.specs.declared.Kind.{Kind}
 use Rattle.format.specs.Accepted.{Nests, OneChild}
 use Rattle.format.specs.Accepted as Accepted
-use Rattle.format.specs.Bytes.{join, bit_at, bit_in, bytes_at, bytes_for}
+use Rattle.format.specs.Bytes.{join, bit_at, bytes_at}
 use Rattle.format.specs.Kept.{cells, spans, span_size, span, kept_spans}
 use Rattle.format.specs.Node.{kind, param, rows, skip, places, first_at, validity_at, has_no_bitmap, no_bitmap, valid, first_number, child}
 use Rattle.format.specs.Verdict.{one_of}

@@ -1,5 +1,5 @@
 // Reading a pack's trailer and nodes. Every reader is total: past the end each byte reads 0.
-ghost use Rattle.std.specs.Prelude.{◌≡◌, ◌+◌, ◌-◌, ◌*◌, ◌^◌, ◌<◌, length, get_or};
+ghost use Rattle.std.specs.Prelude.{◌≡◌, ◌+◌, ◌-◌, ◌*◌, ◌^◌, ◌<◌, get_or};
 ghost use Rattle.format.specs.Bytes.{le};
 ghost use Rattle.format.specs.Node.{table_start, node_count, rows, kind_of, child};
 ghost use Rattle.pack.specs.Read.{trailer_of, node_of};

@@ -3,7 +3,7 @@ ghost use Rattle.std.specs.Prelude.{◌≡◌, cond, not, ◌&&◌, eqb, ltb, ge
 ghost use Rattle.format.specs.Bytes.{any_below};
 ghost use Rattle.format.specs.Node.{node_count, param, of_kind, has_no_bitmap};
 ghost use Rattle.format.specs.Verdict.{any_child, bad_data_buffer, wrong_tree};
-ghost use Rattle.pack.specs.Tree.{popped, Parents, Depths, Walked};
+ghost use Rattle.pack.specs.Tree.{popped, Parents, Walked};
 
 use crate::Walk;
 use crate::read::{less, node_at, node_count};

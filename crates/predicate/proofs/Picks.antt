@@ -1,8 +1,8 @@
 -- What a cursor has still to give: laws of the picks and of the runs' starts and ends from a row on, over any test p of the rows below len. Assumes nothing.
-use Rattle.std.proofs.Common.{◌≡◌, ℕ, zero, suc, ◌+◌, ◌-◌, ◌*◌, ◌<◌, ◌≤◌, Bool, true, false, eqb, List, [], ◌∷◌, ◌++◌, length, sym, refl, ap, ◌∙◌, append-nil, add-one, arith}
+use Rattle.std.proofs.Common.{◌≡◌, ℕ, zero, suc, ◌+◌, ◌-◌, ◌<◌, ◌≤◌, Bool, true, false, List, [], ◌∷◌, ◌++◌, sym, refl, ap, ◌∙◌, append-nil, add-one, arith}
 use native.Mathlib.Nat.{sub-zero}
 use Rattle.format.specs.Rows.{set_rows, Below}
-use Rattle.format.specs.Slots.{after, word_from, joined, join_if, pick, picks_from, runs_from, count_up, starts_and_ends, All, FirstRun}
+use Rattle.format.specs.Slots.{after, word_from, pick, picks_from, runs_from, count_up, starts_and_ends, All, FirstRun}
 use Rattle.format.proofs.RowLaws.{set-from, below_left, below-picks}
 use Rattle.format.proofs.SlotLaws.{all_none, all_one, all_join, all-less, after_is, after-not, picks-cat, picks-none, picks-all, picks-ext, runs-next, runs_none, Next, runs-first}
 use Rattle.predicate.specs.Selection.{picks_on, edges_on}

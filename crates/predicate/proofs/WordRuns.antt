@@ -1,5 +1,5 @@
 -- Runs within a word of the mask: its first kept row, and the first row after it that is not kept. Over any test p of the rows below len. Assumes nothing.
-use Rattle.std.proofs.Common.{◌≡◌, ℕ, zero, suc, ◌+◌, ◌-◌, ◌*◌, ◌/◌, ◌%◌, ◌^◌, ◌<◌, ◌≤◌, Bool, true, false, not, leb, List, [], sym, refl, ap, ◌∙◌, ⊎_elim, true≢false, eq-zero-or-pos, eq-or-lt_of_le, pow-suc, arith, leb-true}
+use Rattle.std.proofs.Common.{◌≡◌, ℕ, zero, suc, ◌+◌, ◌-◌, ◌*◌, ◌/◌, ◌%◌, ◌^◌, ◌<◌, ◌≤◌, Bool, true, false, not, leb, List, [], sym, refl, ◌∙◌, ⊎_elim, true≢false, eq-zero-or-pos, eq-or-lt_of_le, pow-suc, arith, leb-true}
 use mathlib.Core.Bool.{and-eq-true_iff}
 use mathlib.Core.Logic.{dite}
 use native.Mathlib.Decide.{dec_le}

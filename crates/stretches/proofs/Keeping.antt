@@ -8,8 +8,7 @@ use native.Mathlib.Decide.{dec_le}
 use native.Mathlib.Omega.{arith}
 use lib.Dec.{ltb}
 use lib.ListN.{length}
-use Rattle.format.specs.declared.Kind.TheVariants.{Runs}
-use Rattle.format.specs.Node.{node_count, kind, rows, skip, valid, first_number, run_start, run_end, parent}
+use Rattle.format.specs.Node.{kind, rows, skip, valid, first_number, run_start, run_end, parent}
 use Rattle.format.specs.Slots.{All}
 use Rattle.format.specs.Kept.{group_size, kept_runs, kept_rows, kept_spans}
 use Rattle.format.specs.Accepted.{Sound, Shares, Carries}

@@ -7,11 +7,9 @@ use mathlib.Core.Logic.{dite}
 use native.Mathlib.Decide.{dec_le, ℕ_discrete}
 use native.Mathlib.Numerals.{add-one}
 use native.Mathlib.Omega.{arith}
-use lib.ListN.{get_or}
 use Rattle.format.specs.Node.{rows, skip, valid, first_number, run_end}
 use Rattle.nesting.specs.Rows.{AtList}
-use Rattle.nesting.proofs.ListAt.{list-rows, list-spans, rise-to}
-use Rattle.stretches.specs.declared.Place.{Place}
+use Rattle.nesting.proofs.ListAt.{list-spans, rise-to}
 use Rattle.stretches.specs.Stretches.{Before, Past, Ended, Found}
 
 module _ {b table : List ℕ} {w i : ℕ} (a : AtList b table w i) where

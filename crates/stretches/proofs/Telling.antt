@@ -15,7 +15,6 @@ use Rattle.format.specs.Node.{node_count, kind_number, kind, rows, valid, first_
 use Rattle.format.specs.Slots.{All, Sought}
 use Rattle.format.specs.Kept.{kept_rows}
 use Rattle.format.specs.Accepted.{Shares, Carries, Nests}
-use Rattle.format.specs.Accepted as is
 use Rattle.slots.specs.declared.Bits.{Bits}
 use Rattle.slots.specs.Source.{slot_of}
 use Rattle.nesting.specs.Rows.{between, keeps, picks_of, Ready, AtRuns, AtList}

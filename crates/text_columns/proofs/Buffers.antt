@@ -1,7 +1,7 @@
 -- The buffers of a node's kept own bytes are what the column filters write, with the node's skip in the place of row 0. Assumes nothing.
 use Prim.Native.Nat.{ℕ, ◌+◌, ◌*◌}
 use mathlib.Core.List.{List, map}
-use mathlib.Core.Path.{◌≡◌, sym, ap, ◌∙◌}
+use mathlib.Core.Path.{◌≡◌, sym, ap}
 use Rattle.format.specs.Kept.{own_bytes, texts}
 use Rattle.format.specs.Node.{first_at, second_at, skip}
 use Rattle.format.specs.Write.{holds, numbers, offsets, first, second}

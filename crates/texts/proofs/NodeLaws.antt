@@ -1,5 +1,5 @@
 -- A node's kept own bytes and their sizes are what the writers write, as the kept part names them, and how much there is of them. Assumes nothing.
-use Rattle.std.proofs.Common.{◌≡◌, ℕ, zero, suc, ◌+◌, ◌*◌, ◌≤◌, Bool, true, false, cond, List, [], ◌∷◌, ◌++◌, map, length, sym, refl, ap, ◌∙◌, ap₂, append-nil, le_refl, add-zero, mul-add, arith, length-append}
+use Rattle.std.proofs.Common.{◌≡◌, ℕ, zero, suc, ◌+◌, ◌*◌, ◌≤◌, Bool, true, false, cond, List, [], ◌∷◌, ◌++◌, map, length, sym, refl, ap, ◌∙◌, ap₂, append-nil, le_refl, add-zero, mul-add, arith}
 use mathlib.Core.List.{map_congr_left}
 use Rattle.format.specs.Bytes.{join, chosen, le, to_le}
 use Rattle.format.specs.Node.{first_at, second_at, skip, first_number}

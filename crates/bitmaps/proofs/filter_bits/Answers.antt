@@ -2,7 +2,6 @@
 use mathlib.Core.Path.{refl}
 use mathlib.Core.Bool.{false}
 use native.Mathlib.Omega.{arith}
-use borrow.Author.Rules.{rules}
 use Rattle.format.proofs.Put.{none}
 use Rattle.predicate.proofs.Holding.{sourced-readable}
 use Rattle.bitmaps.specs.Push.{bit_from}

@@ -2,18 +2,15 @@
 use Prim.Native.Nat.{◌-◌}
 use mathlib.Core.Path.{refl, sym}
 use native.Mathlib.Omega.{arith}
-use borrow.Author.Rules.{rules}
 use Rattle.format.specs.Bytes.{packed}
-use Rattle.format.specs.Slots.{picks_from}
 use Rattle.format.proofs.Numbers.{length-bytes}
 use Rattle.format.proofs.Put.{same_size}
 use Rattle.format.proofs.SlotLaws.{length_up}
-use Rattle.predicate.specs.Selection.{InStep, kept_by, picks_on}
+use Rattle.predicate.specs.Selection.{kept_by}
 use Rattle.predicate.proofs.Picks.{picks_start}
 use Rattle.predicate.proofs.Steps.{falls}
-use Rattle.bitmaps.specs.Push.{bit_from}
 use Rattle.bitmaps.proofs.PushLaws.{packs-done, flush-room}
-use Rattle.bitmaps.proofs.BlockWalk.{Walked, walk_none, walk_more, walk-room, walk-done}
+use Rattle.bitmaps.proofs.BlockWalk.{walk_none, walk_more, walk-room, walk-done}
 use Rattle.bitmaps.proofs.filter_bits_blocks.Goals as goal
 
 pub loop-a-init : goal.loop-a-init

@@ -1,19 +1,9 @@
 -- What the loops of `filter_bits_blocks` keep, and their measures. Assumes nothing.
 use Prim.Native.Nat.{◌-◌}
-use mathlib.Core.Path.{refl, sym}
-use native.Mathlib.Omega.{arith}
-use borrow.Author.Rules.{rules}
-use Rattle.format.specs.Bytes.{packed}
 use Rattle.format.specs.Slots.{picks_from}
-use Rattle.format.proofs.Numbers.{length-bytes}
-use Rattle.format.proofs.Put.{same_size}
-use Rattle.format.proofs.SlotLaws.{length_up}
 use Rattle.predicate.specs.Selection.{InStep, kept_by, picks_on}
-use Rattle.predicate.proofs.Picks.{picks_start}
-use Rattle.predicate.proofs.Steps.{falls}
 use Rattle.bitmaps.specs.Push.{bit_from}
-use Rattle.bitmaps.proofs.PushLaws.{packs-done, flush-room}
-use Rattle.bitmaps.proofs.BlockWalk.{Walked, walk_none, walk_more, walk-room, walk-done}
+use Rattle.bitmaps.proofs.BlockWalk.{Walked}
 use Rattle.bitmaps.proofs.filter_bits_blocks.Given as goal
 
 abbrev pub invariant-loop-a : goal.invariant-loop-a

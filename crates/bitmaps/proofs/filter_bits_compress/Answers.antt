@@ -1,9 +1,7 @@
 -- `bitmaps::filter_bits_compress` meets its contract. The invariant: the bits of the words passed are packed. Assumes nothing.
-use Prim.Native.Nat.{◌+◌, ◌-◌, ◌*◌, ◌≤◌}
-use mathlib.Core.Logic.{⊎_elim}
+use Prim.Native.Nat.{◌+◌, ◌-◌, ◌*◌}
 use mathlib.Core.Path.{◌≡◌, refl, ◌∙◌}
 use native.Mathlib.Omega.{arith}
-use borrow.Author.Rules.{rules}
 use Rattle.format.specs.Bytes.{packed}
 use Rattle.format.specs.Slots.{picks_from}
 use Rattle.format.proofs.Put.{same_size}

@@ -1,7 +1,6 @@
 -- `bitmaps::push` meets its contract: the packer's step is put. Assumes nothing.
 use mathlib.Core.Path.{refl}
 use native.Mathlib.Omega.{arith}
-use borrow.Author.Rules.{rules}
 use Rattle.format.specs.Words.{low_bits}
 use Rattle.format.proofs.WordLaws.{length-low}
 use Rattle.bitmaps.proofs.PushLaws.{pushes-step, push-fits}

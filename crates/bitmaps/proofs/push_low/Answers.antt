@@ -2,7 +2,6 @@
 use mathlib.Core.List.{◌++◌}
 use mathlib.Core.Path.{◌≡◌, refl, ap, ◌∙◌}
 use native.Mathlib.Omega.{arith}
-use borrow.Author.Rules.{rules}
 use Rattle.format.specs.Words.{low_bits}
 use Rattle.format.proofs.WordLaws.{length-low}
 use Rattle.bits.specs.Pack.{waiting, packing}

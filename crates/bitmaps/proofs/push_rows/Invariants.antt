@@ -1,15 +1,8 @@
 -- What the loops of `push_rows` keep, and their measures. Assumes nothing.
 use Prim.Native.Nat.{◌-◌, ◌≤◌}
-use mathlib.Core.Path.{◌≡◌}
 use mathlib.Core.List.{map}
-use native.Mathlib.Nat.{sub_self}
-use native.Mathlib.Omega.{arith}
-use borrow.Author.Rules.{rules}
-use lib.ListN.{get_or}
 use Rattle.format.specs.Bytes.{bytes_at}
 use Rattle.bitmaps.specs.Push.{Adds, bit_from}
-use Rattle.bitmaps.proofs.PushLaws.{adds_none, adds_then, adds-push, adds-room}
-use Rattle.bitmaps.proofs.WordWalk.{run-bits, run-size, listed_more, listed-size}
 use Rattle.bitmaps.proofs.push_rows.Given as goal
 
 abbrev pub invariant-loop-k : goal.invariant-loop-k

@@ -2,7 +2,6 @@
 use Prim.Native.Nat.{◌+◌, ◌-◌, ◌*◌, ◌/◌}
 use mathlib.Core.Path.{◌≡◌}
 use native.Mathlib.Omega.{arith}
-use borrow.Author.Rules.{rules}
 use Rattle.bitmaps.proofs.PushLaws.{adds_then, adds-push, adds-room}
 use Rattle.bitmaps.proofs.WordWalk.{run-bits, run_more, run-size}
 use Rattle.bitmaps.proofs.push_run.Goals as goal

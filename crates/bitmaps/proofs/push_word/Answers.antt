@@ -1,7 +1,6 @@
 -- `bitmaps::push_word` meets its contract. The invariant: the bits of the runs taken off are added. Assumes nothing.
 use native.Mathlib.Omega.{arith}
-use borrow.Author.Rules.{rules}
-use Rattle.bitmaps.proofs.WordWalk.{Worded, word_none, word_more, word-done, word_fits}
+use Rattle.bitmaps.proofs.WordWalk.{word_none, word_more, word-done, word_fits}
 use Rattle.bitmaps.proofs.push_word.Goals as goal
 
 pub push_low-to-requires : goal.push_low-to-requires

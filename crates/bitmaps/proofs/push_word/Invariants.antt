@@ -1,7 +1,5 @@
 -- What the loops of `push_word` keep, and their measures. Assumes nothing.
-use native.Mathlib.Omega.{arith}
-use borrow.Author.Rules.{rules}
-use Rattle.bitmaps.proofs.WordWalk.{Worded, word_none, word_more, word-done, word_fits}
+use Rattle.bitmaps.proofs.WordWalk.{Worded}
 use Rattle.bitmaps.proofs.push_word.Given as goal
 
 abbrev pub invariant-loop-rest : goal.invariant-loop-rest

@@ -1,13 +1,8 @@
 -- What the loops of `push_words` keep, and their measures. Assumes nothing.
 use Prim.Native.Nat.{◌+◌, ◌-◌, ◌*◌, ◌≤◌}
-use mathlib.Core.Path.{◌≡◌}
 use mathlib.Core.List.{map}
-use native.Mathlib.Omega.{arith}
-use borrow.Author.Rules.{rules}
 use Rattle.format.specs.Slots.{count_up}
 use Rattle.bitmaps.specs.Push.{Adds, bit_from}
-use Rattle.bitmaps.proofs.PushLaws.{adds_none, adds_then, adds-push, adds-room}
-use Rattle.bitmaps.proofs.WordWalk.{run-bits, run_more, run-size}
 use Rattle.bitmaps.proofs.push_words.Given as goal
 
 abbrev pub invariant-loop-w : goal.invariant-loop-w

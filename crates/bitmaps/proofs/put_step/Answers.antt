@@ -1,7 +1,6 @@
 -- `bitmaps::put_step` meets its contract: by what the step hands back. Assumes nothing.
 use mathlib.Core.Path.{refl}
 use native.Mathlib.Omega.{arith}
-use borrow.Author.Rules.{rules}
 use Rattle.bitmaps.proofs.PushLaws.{step-none, step-word, step-size}
 use Rattle.bitmaps.proofs.put_step.Goals as goal
 

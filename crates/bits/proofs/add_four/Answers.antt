@@ -1,6 +1,5 @@
 -- `bits::add_four` meets its contract: by the tables' rules. Assumes nothing.
 use native.Mathlib.Omega.{arith}
-use borrow.Author.Rules.{rules}
 use Rattle.bits.proofs.FourLaws.{shift-lt, entry_lt, added, added-lt}
 use Rattle.bits.proofs.add_four.Goals as goal
 

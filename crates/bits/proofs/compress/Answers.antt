@@ -1,5 +1,4 @@
 -- `bits::compress` meets its contract: the tables are made, and lent. Assumes nothing.
-use borrow.Author.Rules.{rules}
 use Rattle.bits.proofs.compress.Goals as goal
 
 pub compress_by-requires : goal.compress_by-requires

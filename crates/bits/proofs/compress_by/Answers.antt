@@ -1,5 +1,5 @@
 -- `bits::compress_by` meets its contract. The invariant: the bits from bit `at` up are gathered. Assumes nothing.
-use Prim.Native.Nat.{◌+◌, ◌-◌, ◌%◌}
+use Prim.Native.Nat.{◌+◌, ◌-◌}
 use mathlib.Core.Path.{◌≡◌, refl}
 use native.Mathlib.Omega.{arith}
 use Rattle.bits.proofs.FourLaws.{Gathered, begun, room, turn, done, place-high, place-low}

@@ -1,8 +1,7 @@
 -- What the loops of `compress_by` keep, and their measures. Assumes nothing.
-use Prim.Native.Nat.{◌+◌, ◌-◌, ◌%◌}
-use mathlib.Core.Path.{◌≡◌, refl}
-use native.Mathlib.Omega.{arith}
-use Rattle.bits.proofs.FourLaws.{Gathered, begun, room, turn, done, place-high, place-low}
+use Prim.Native.Nat.{◌-◌, ◌%◌}
+use mathlib.Core.Path.{◌≡◌}
+use Rattle.bits.proofs.FourLaws.{Gathered}
 use Rattle.bits.proofs.compress_by.Given as goal
 
 abbrev pub invariant-loop-at : goal.invariant-loop-at

@@ -1,7 +1,6 @@
 -- `buffers::put_bits` meets its contract: padding, then the buffer. Assumes nothing.
 use mathlib.Core.Path.{refl}
 use native.Mathlib.Omega.{arith}
-use borrow.Author.Rules.{rules}
 use Rattle.format.proofs.Put.{same_size}
 use Rattle.buffers.proofs.PutLaws.{puts-bytes, pad-room, bytes-room}
 use Rattle.buffers.proofs.put_bits.Goals as goal

@@ -1,10 +1,7 @@
 -- `case_text::name_end` meets its contract: what is sought from the place on is what was sought at first. Assumes nothing.
-use Prim.Native.Nat.{◌-◌, ◌≤◌}
-use borrow.Author.Rules.{rules}
-use lib.ListN.{length}
-use mathlib.Core.Path.{◌≡◌, refl, sym, ◌∙◌}
+use Prim.Native.Nat.{◌-◌}
+use mathlib.Core.Path.{refl, sym, ◌∙◌}
 use native.Mathlib.Omega.{arith}
-use Rattle.case_text.specs.Places.{seek, ends_name, name_end}
 use Rattle.case_text.proofs.Ends.{seek-on, seek-here, seek-end}
 use Rattle.case_text.proofs.name_end.Goals as goal
 

@@ -1,11 +1,8 @@
 -- What the loops of `name_end` keep, and their measures. Assumes nothing.
 use Prim.Native.Nat.{◌-◌, ◌≤◌}
-use borrow.Author.Rules.{rules}
 use lib.ListN.{length}
-use mathlib.Core.Path.{◌≡◌, refl, sym, ◌∙◌}
-use native.Mathlib.Omega.{arith}
+use mathlib.Core.Path.{◌≡◌}
 use Rattle.case_text.specs.Places.{seek, ends_name, name_end}
-use Rattle.case_text.proofs.Ends.{seek-on, seek-here, seek-end}
 use Rattle.case_text.proofs.name_end.Given as goal
 
 abbrev pub invariant-loop-i : goal.invariant-loop-i

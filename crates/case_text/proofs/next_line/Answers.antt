@@ -1,12 +1,8 @@
 -- `case_text::next_line` meets its contract: what is sought from the place on is what was sought at first. Assumes nothing.
-use Prim.Native.Nat.{◌-◌, ◌≤◌, ◌<◌}
-use borrow.Author.Rules.{rules}
+use Prim.Native.Nat.{◌-◌}
 use borrow.Author.Tests.{eq-eqb, ne_eqb}
-use lib.Dec.{eqb}
-use lib.ListN.{length}
-use mathlib.Core.Path.{◌≡◌, refl, sym, ◌∙◌}
+use mathlib.Core.Path.{refl, sym, ◌∙◌}
 use native.Mathlib.Omega.{arith}
-use Rattle.case_text.specs.Places.{seek_past, line_end}
 use Rattle.case_text.proofs.Ends.{past-on, past-here, past_end}
 use Rattle.case_text.proofs.next_line.Goals as goal
 

@@ -1,13 +1,9 @@
 -- What the loops of `next_line` keep, and their measures. Assumes nothing.
 use Prim.Native.Nat.{◌-◌, ◌≤◌, ◌<◌}
-use borrow.Author.Rules.{rules}
-use borrow.Author.Tests.{eq-eqb, ne_eqb}
 use lib.Dec.{eqb}
 use lib.ListN.{length}
-use mathlib.Core.Path.{◌≡◌, refl, sym, ◌∙◌}
-use native.Mathlib.Omega.{arith}
+use mathlib.Core.Path.{◌≡◌}
 use Rattle.case_text.specs.Places.{seek_past, line_end}
-use Rattle.case_text.proofs.Ends.{past-on, past-here, past_end}
 use Rattle.case_text.proofs.next_line.Given as goal
 
 abbrev pub invariant-loop-i : goal.invariant-loop-i

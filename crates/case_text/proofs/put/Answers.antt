@@ -1,5 +1,4 @@
 -- `case_text::put` meets its contract: there is room, or there is none. Assumes nothing.
-use borrow.Author.Rules.{rules}
 use native.Mathlib.Omega.{arith}
 use Rattle.case_text.proofs.Bytes.{put-more, put_full}
 use Rattle.case_text.proofs.put.Goals as goal

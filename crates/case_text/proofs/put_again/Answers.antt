@@ -1,11 +1,9 @@
 -- `case_text::put_again` meets its contract: what is left to put, behind what was put, is what was to be put at first. Assumes nothing.
-use Prim.Native.Nat.{◌*◌, ◌≤◌}
+use Prim.Native.Nat.{◌*◌}
 use borrow.Author.Rules.{rules}
-use lib.ListN.{length, take}
 use lib.Seq.{length-take-le}
-use mathlib.Core.Path.{◌≡◌, refl, sym, ◌∙◌}
+use mathlib.Core.Path.{refl, sym, ◌∙◌}
 use native.Mathlib.Omega.{arith}
-use Rattle.case_text.specs.Words.{put_again}
 use Rattle.case_text.proofs.Bytes.{again-few, again-full, again-put, again-done}
 use Rattle.case_text.proofs.put_again.Goals as goal
 

@@ -1,12 +1,8 @@
 -- What the loops of `put_again` keep, and their measures. Assumes nothing.
 use Prim.Native.Nat.{◌*◌, ◌≤◌}
-use borrow.Author.Rules.{rules}
 use lib.ListN.{length, take}
-use lib.Seq.{length-take-le}
-use mathlib.Core.Path.{◌≡◌, refl, sym, ◌∙◌}
-use native.Mathlib.Omega.{arith}
+use mathlib.Core.Path.{◌≡◌}
 use Rattle.case_text.specs.Words.{put_again}
-use Rattle.case_text.proofs.Bytes.{again-few, again-full, again-put, again-done}
 use Rattle.case_text.proofs.put_again.Given as goal
 
 abbrev pub invariant-loop-left : goal.invariant-loop-left

@@ -1,5 +1,4 @@
 -- `case_text::put_word` meets its contract, sign by sign. Assumes nothing.
-use borrow.Author.Rules.{rules}
 use borrow.Author.Tests.{ne_eqb}
 use mathlib.Core.Path.{refl}
 use Rattle.case_text.proofs.put_word.Goals as goal

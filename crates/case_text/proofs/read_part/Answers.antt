@@ -1,12 +1,11 @@
 -- `case_text::read_part` meets its contract: what is left to read from the place on, behind what was read, is what was to be read at first, and ends
 -- where it was to end. Assumes nothing.
-use Prim.Native.Nat.{◌-◌, ◌<◌, ◌^◌, ◌≤◌}
+use Prim.Native.Nat.{◌-◌}
 use borrow.Author.Rules.{rules}
 use lib.ListN.{length}
 use mathlib.Core.Path.{◌≡◌, refl, sym, ap, ◌∙◌}
 use native.Mathlib.Omega.{arith}
-use Rattle.case_text.specs.Places.{seek_past, ends_part, part_end}
-use Rattle.case_text.specs.Words.{Read, read_from, read_so_far, unread}
+use Rattle.case_text.specs.Words.{Read}
 use Rattle.case_text.proofs.Ends.{past-on, past-here, past_end}
 use Rattle.case_text.proofs.Bytes.{read-on, read_here, read-end}
 use Rattle.case_text.proofs.read_part.Goals as goal

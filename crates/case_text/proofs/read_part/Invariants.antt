@@ -1,13 +1,9 @@
 -- What the loops of `read_part` keep, and their measures. Assumes nothing.
 use Prim.Native.Nat.{◌-◌, ◌<◌, ◌^◌, ◌≤◌}
-use borrow.Author.Rules.{rules}
 use lib.ListN.{length}
-use mathlib.Core.Path.{◌≡◌, refl, sym, ap, ◌∙◌}
-use native.Mathlib.Omega.{arith}
+use mathlib.Core.Path.{◌≡◌}
 use Rattle.case_text.specs.Places.{seek_past, ends_part, part_end}
-use Rattle.case_text.specs.Words.{Read, read_from, read_so_far, unread}
-use Rattle.case_text.proofs.Ends.{past-on, past-here, past_end}
-use Rattle.case_text.proofs.Bytes.{read-on, read_here, read-end}
+use Rattle.case_text.specs.Words.{read_from, read_so_far, unread}
 use Rattle.case_text.proofs.read_part.Given as goal
 
 abbrev pub invariant-loop-i : goal.invariant-loop-i

@@ -1,5 +1,4 @@
 -- `checker::check` meets its contract: each return has the tests that led there. Assumes nothing.
-use borrow.Author.Rules.{rules}
 use mathlib.Core.Path.{◌∙◌, sym}
 use Rattle.format.specs.Verdict.{conditions, first_of, journal_verdict}
 use Rattle.format.proofs.Accepted.{few-nodes, table-place}

@@ -1,5 +1,4 @@
 -- `checker::check_buffers` meets its contract: each return has the tests that led there. Assumes nothing.
-use borrow.Author.Rules.{rules}
 use mathlib.Core.Path.{◌∙◌, sym}
 use Rattle.format.specs.Verdict.{first_of}
 use Rattle.checker.proofs.check_buffers.Goals as goal

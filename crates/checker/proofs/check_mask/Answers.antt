@@ -1,5 +1,4 @@
 -- `checker::check_mask` meets its contract: the root is tried last. Assumes nothing.
-use borrow.Author.Rules.{rules}
 use mathlib.Core.Path.{◌∙◌, sym}
 use Rattle.checker.proofs.Order.{refused-first, root-passed, root-refused}
 use Rattle.checker.proofs.check_mask.Goals as goal

@@ -1,5 +1,4 @@
 -- `checker::wrong_root` meets its contract. Assumes nothing.
-use borrow.Author.Rules.{rules}
 use Rattle.format.specs.Node.{of_kind}
 use Rattle.format.specs.Verdict.{wrong_root}
 use Rattle.checker.proofs.wrong_root.Goals as goal

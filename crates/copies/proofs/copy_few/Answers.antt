@@ -1,7 +1,6 @@
 -- `copies::copy_few` meets its contract: two moves that overlap, one byte, or none. Assumes nothing.
 use mathlib.Core.Path.{refl, ap}
 use native.Mathlib.Omega.{arith}
-use borrow.Author.Rules.{rules}
 use Rattle.format.specs.Bytes.{bytes_at}
 use Rattle.format.proofs.Numbers.{bytes-none}
 use Rattle.format.proofs.Put.{none, named}

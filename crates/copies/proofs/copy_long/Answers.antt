@@ -1,10 +1,8 @@
 -- `copies::copy_long` meets its contract. The loop's invariant: the first i bytes are written; the last move writes from k on, over what stands there already. Assumes nothing.
-use Prim.Native.Nat.{◌+◌, ◌-◌, ◌≤◌}
+use Prim.Native.Nat.{◌+◌, ◌-◌}
 use mathlib.Core.Path.{refl, sym, ap}
 use native.Mathlib.Omega.{arith}
-use borrow.Author.Rules.{rules}
 use Rattle.format.specs.Bytes.{bytes_at}
-use Rattle.format.specs.Put.{Wrote}
 use Rattle.format.proofs.Numbers.{bytes-none, length-bytes}
 use Rattle.format.proofs.Put.{none, named, same_size}
 use Rattle.copies.proofs.Overlap.{overlap}

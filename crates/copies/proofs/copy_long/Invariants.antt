@@ -1,13 +1,7 @@
 -- What the loops of `copy_long` keep, and their measures. Assumes nothing.
 use Prim.Native.Nat.{◌+◌, ◌-◌, ◌≤◌}
-use mathlib.Core.Path.{refl, sym, ap}
-use native.Mathlib.Omega.{arith}
-use borrow.Author.Rules.{rules}
 use Rattle.format.specs.Bytes.{bytes_at}
 use Rattle.format.specs.Put.{Wrote}
-use Rattle.format.proofs.Numbers.{bytes-none, length-bytes}
-use Rattle.format.proofs.Put.{none, named, same_size}
-use Rattle.copies.proofs.Overlap.{overlap}
 use Rattle.copies.proofs.copy_long.Given as goal
 
 abbrev pub invariant-loop-i : goal.invariant-loop-i

@@ -3,7 +3,6 @@ use mathlib.Core.Path.{ap}
 use native.Mathlib.Omega.{arith}
 use Rattle.format.specs.Bytes.{bytes_at}
 use Rattle.format.proofs.Put.{named}
-use borrow.Author.Rules.{rules}
 use Rattle.copies.proofs.move_entry.Goals as goal
 
 pub returns-then-width-eq8 : goal.returns-then-width-eq8

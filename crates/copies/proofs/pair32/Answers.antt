@@ -5,7 +5,6 @@ use native.Mathlib.Omega.{arith}
 use Rattle.format.specs.Bytes.{bytes_at}
 use Rattle.format.proofs.Put.{named}
 use Rattle.copies.proofs.Overlap.{overlap}
-use borrow.Author.Rules.{rules}
 use Rattle.copies.proofs.pair32.Goals as goal
 
 pub returns : goal.returns

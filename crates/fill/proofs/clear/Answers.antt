@@ -1,10 +1,9 @@
 -- `fill::clear` meets its contract. What is left to write are the zeros from j on. Assumes nothing.
-use Prim.Native.Nat.{◌≤◌, ◌-◌}
+use Prim.Native.Nat.{◌-◌}
 use mathlib.Core.Path.{refl}
 use native.Mathlib.Omega.{arith}
 use borrow.Author.Rules.{rules}
-use lib.ListN.{replicate}
-use Rattle.format.proofs.Put.{Left, whole, stored, done, kept}
+use Rattle.format.proofs.Put.{whole, stored, done, kept}
 use Rattle.marks.proofs.Stored.{same_next, same_none}
 use Rattle.fill.proofs.Stored.{zeros-all, zeros-over}
 use Rattle.fill.proofs.clear.Goals as goal

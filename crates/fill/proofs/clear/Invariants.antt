@@ -1,12 +1,7 @@
 -- What the loops of `clear` keep, and their measures. Assumes nothing.
 use Prim.Native.Nat.{◌≤◌, ◌-◌}
-use mathlib.Core.Path.{refl}
-use native.Mathlib.Omega.{arith}
-use borrow.Author.Rules.{rules}
 use lib.ListN.{replicate}
-use Rattle.format.proofs.Put.{Left, whole, stored, done, kept}
-use Rattle.marks.proofs.Stored.{same_next, same_none}
-use Rattle.fill.proofs.Stored.{zeros-all, zeros-over}
+use Rattle.format.proofs.Put.{Left}
 use Rattle.fill.proofs.clear.Given as goal
 
 abbrev pub invariant-loop-j : goal.invariant-loop-j

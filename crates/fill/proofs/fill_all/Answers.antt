@@ -1,12 +1,11 @@
 -- `fill::fill_all` meets its contract. The loop's invariant: the children of the first i nodes have their bitmaps. Assumes nothing.
-use Prim.Native.Nat.{◌≤◌, ◌-◌}
-use mathlib.Core.Path.{◌≡◌, refl}
+use Prim.Native.Nat.{◌-◌}
+use mathlib.Core.Path.{refl}
 use native.Mathlib.Omega.{arith}
-use lib.ListN.{length, length-set}
+use lib.ListN.{length-set}
 use Rattle.format.proofs.Put.{same_size}
-use Rattle.nesting.specs.Rows.{picks_of}
 use Rattle.nesting.proofs.Counted.{ready_at}
-use Rattle.fill.proofs.Filling.{FilledTo, takes, inside, filled_none, filled-earlier, next_fits, filled_more, filled-same, filled-all}
+use Rattle.fill.proofs.Filling.{takes, inside, filled_none, filled-earlier, next_fits, filled_more, filled-same, filled-all}
 use Rattle.fill.proofs.fill_all.Goals as goal
 
 pub node_count-n-requires : goal.node_count-n-requires

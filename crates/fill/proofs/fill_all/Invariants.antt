@@ -1,12 +1,9 @@
 -- What the loops of `fill_all` keep, and their measures. Assumes nothing.
 use Prim.Native.Nat.{◌≤◌, ◌-◌}
-use mathlib.Core.Path.{◌≡◌, refl}
-use native.Mathlib.Omega.{arith}
-use lib.ListN.{length, length-set}
-use Rattle.format.proofs.Put.{same_size}
+use mathlib.Core.Path.{◌≡◌}
+use lib.ListN.{length}
 use Rattle.nesting.specs.Rows.{picks_of}
-use Rattle.nesting.proofs.Counted.{ready_at}
-use Rattle.fill.proofs.Filling.{FilledTo, takes, inside, filled_none, filled-earlier, next_fits, filled_more, filled-same, filled-all}
+use Rattle.fill.proofs.Filling.{FilledTo}
 use Rattle.fill.proofs.fill_all.Given as goal
 
 abbrev pub invariant-loop-i : goal.invariant-loop-i

@@ -2,7 +2,6 @@
 use mathlib.Core.Bool.{not}
 use mathlib.Core.Path.{sym, ap, ◌∙◌}
 use native.Mathlib.Numerals.{add-one}
-use borrow.Author.Rules.{rules}
 use Rattle.nesting.proofs.Scratch.{child-inside, takes-is}
 use Rattle.fill.specs.Scratch.{takes_bitmap}
 use Rattle.fill.proofs.takes_bitmap.Goals as goal

@@ -1,5 +1,5 @@
 -- `gather::copy_rows` meets its contract. The entries of consecutive rows are one part of `src`. Assumes nothing.
-use Rattle.std.proofs.Common.{◌≡◌, ◌+◌, ◌-◌, ◌*◌, length, sym, ap, ◌∙◌, arith, rules}
+use Rattle.std.proofs.Common.{◌≡◌, ◌+◌, ◌-◌, ◌*◌, length, sym, ap, ◌∙◌, arith}
 use Rattle.format.specs.Slots.{count_up}
 use Rattle.format.proofs.Numbers.{length-bytes}
 use Rattle.format.proofs.Put.{named}

@@ -1,5 +1,4 @@
 -- `gather::gather_list` meets its contract: what the loop of its width does. Assumes nothing.
-use Rattle.std.proofs.Common.{rules}
 use Rattle.gather.proofs.gather_list.Goals as goal
 
 pub gather_list8-requires : goal.gather_list8-requires

@@ -1,7 +1,6 @@
 -- What the loops of `gather_list32` keep, and their measures. Assumes nothing.
-use Rattle.std.proofs.Common.{◌-◌, arith}
-use Rattle.format.proofs.Put.{kept}
-use Rattle.append.proofs.CellLaws.{Listing, list_all, list-fits, list-needs, list-next, list_done}
+use Rattle.std.proofs.Common.{◌-◌}
+use Rattle.append.proofs.CellLaws.{Listing}
 use Rattle.gather.proofs.gather_list32.Given as goal
 
 abbrev pub invariant-loop-k : goal.invariant-loop-k

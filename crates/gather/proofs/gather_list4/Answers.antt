@@ -1,7 +1,7 @@
 -- `gather::gather_list4` meets its contract: the loop over a list's rows at width 4. Assumes nothing.
 use Rattle.std.proofs.Common.{◌-◌, arith}
 use Rattle.format.proofs.Put.{kept}
-use Rattle.append.proofs.CellLaws.{Listing, list_all, list-fits, list-needs, list-next, list_done}
+use Rattle.append.proofs.CellLaws.{list_all, list-fits, list-needs, list-next, list_done}
 use Rattle.gather.proofs.gather_list4.Goals as goal
 
 pub loop-k-init : goal.loop-k-init

@@ -1,5 +1,4 @@
 -- `gather::gather_word` meets its contract: what the loop of its width does. Assumes nothing.
-use Rattle.std.proofs.Common.{rules}
 use Rattle.gather.proofs.gather_word.Goals as goal
 
 pub gather_word8-requires : goal.gather_word8-requires

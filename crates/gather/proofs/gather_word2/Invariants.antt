@@ -1,7 +1,5 @@
 -- What the loops of `gather_word2` keep, and their measures. Assumes nothing.
-use Rattle.std.proofs.Common.{arith, rules}
-use Rattle.format.proofs.Put.{kept}
-use Rattle.append.proofs.CellLaws.{Picking, pick_all, pick-row, pick-fits, pick-needs, pick_less, pick_more, pick-done}
+use Rattle.append.proofs.CellLaws.{Picking}
 use Rattle.gather.proofs.gather_word2.Given as goal
 
 abbrev pub invariant-loop-rest : goal.invariant-loop-rest

@@ -1,7 +1,7 @@
 -- `gather::gather_word4` meets its contract: the loop over a word's rows at width 4; a turn takes the lowest bit. Assumes nothing.
 use Rattle.std.proofs.Common.{arith, rules}
 use Rattle.format.proofs.Put.{kept}
-use Rattle.append.proofs.CellLaws.{Picking, pick_all, pick-row, pick-fits, pick-needs, pick_less, pick_more, pick-done}
+use Rattle.append.proofs.CellLaws.{pick_all, pick-row, pick-fits, pick-needs, pick_less, pick_more, pick-done}
 use Rattle.gather.proofs.gather_word4.Goals as goal
 
 pub loop-rest-init : goal.loop-rest-init

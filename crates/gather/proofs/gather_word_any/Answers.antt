@@ -1,7 +1,7 @@
 -- `gather::gather_word_any` meets its contract: the loop over a word's rows at any width; a turn takes the lowest bit. Assumes nothing.
 use Rattle.std.proofs.Common.{arith, rules}
 use Rattle.format.proofs.Put.{kept}
-use Rattle.append.proofs.CellLaws.{Picking, pick_all, pick-row, pick-fits, pick-needs, pick_less, pick_more, pick-done}
+use Rattle.append.proofs.CellLaws.{pick_all, pick-row, pick-fits, pick-needs, pick_less, pick_more, pick-done}
 use Rattle.gather.proofs.gather_word_any.Goals as goal
 
 pub loop-rest-init : goal.loop-rest-init

@@ -1,7 +1,7 @@
 -- `gather::gather_words` meets its contract. What is left to write are the entries at the set bits of the words from k on. Assumes nothing.
-use Rattle.std.proofs.Common.{◌-◌, length, arith}
+use Rattle.std.proofs.Common.{◌-◌, arith}
 use Rattle.format.proofs.Put.{kept}
-use Rattle.append.proofs.CellLaws.{Gathering, gather-all, gather-needs, gather-more, gather-done}
+use Rattle.append.proofs.CellLaws.{gather-all, gather-needs, gather-more, gather-done}
 use Rattle.gather.proofs.gather_words.Goals as goal
 
 pub gather_word-here-requires : goal.gather_word-here-requires

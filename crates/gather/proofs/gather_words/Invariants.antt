@@ -1,7 +1,6 @@
 -- What the loops of `gather_words` keep, and their measures. Assumes nothing.
-use Rattle.std.proofs.Common.{◌-◌, length, arith}
-use Rattle.format.proofs.Put.{kept}
-use Rattle.append.proofs.CellLaws.{Gathering, gather-all, gather-needs, gather-more, gather-done}
+use Rattle.std.proofs.Common.{◌-◌, length}
+use Rattle.append.proofs.CellLaws.{Gathering}
 use Rattle.gather.proofs.gather_words.Given as goal
 
 abbrev pub invariant-loop-k : goal.invariant-loop-k

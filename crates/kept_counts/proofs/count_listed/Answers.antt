@@ -1,16 +1,8 @@
 -- `kept_counts::count_listed` meets its contract. The loop's invariant: n is the child rows of the kept rows below r. Assumes nothing.
 use native.Mathlib.Omega.{arith}
 use borrow.Author.Rules.{rules}
-use mathlib.Core.Path.{◌≡◌}
-use Prim.Native.Nat.{◌≤◌, ◌-◌}
-use mathlib.Core.List.{map}
-use lib.ListN.{length}
-use Rattle.format.specs.Bytes.{chosen, join}
-use Rattle.format.specs.Node.{rows, first_number}
-use Rattle.format.specs.Kept.{span}
-use Rattle.nesting.specs.Rows.{keeps, picks_of}
+use Prim.Native.Nat.{◌-◌}
 use Rattle.nesting.proofs.ListAt.{list-few, list-short, list-rows, list-spans, child-few, rise-to}
-use Rattle.stretches.specs.Stretches.{Seen}
 use Rattle.kept_counts.proofs.Counting.{listed-rises, listed_more, listed-all}
 use Rattle.stretches.proofs.Minding.{seen_none}
 use Rattle.stretches.proofs.Spanned.{bytes-none, bytes-passed}

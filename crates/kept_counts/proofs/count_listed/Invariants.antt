@@ -1,6 +1,4 @@
 -- What the loops of `count_listed` keep, and their measures. Assumes nothing.
-use native.Mathlib.Omega.{arith}
-use borrow.Author.Rules.{rules}
 use mathlib.Core.Path.{◌≡◌}
 use Prim.Native.Nat.{◌≤◌, ◌-◌}
 use mathlib.Core.List.{map}
@@ -9,12 +7,7 @@ use Rattle.format.specs.Bytes.{chosen, join}
 use Rattle.format.specs.Node.{rows, first_number}
 use Rattle.format.specs.Kept.{span}
 use Rattle.nesting.specs.Rows.{keeps, picks_of}
-use Rattle.nesting.proofs.ListAt.{list-few, list-short, list-rows, list-spans, child-few, rise-to}
 use Rattle.stretches.specs.Stretches.{Seen}
-use Rattle.kept_counts.proofs.Counting.{listed-rises, listed_more, listed-all}
-use Rattle.stretches.proofs.Minding.{seen_none}
-use Rattle.stretches.proofs.Spanned.{bytes-none, bytes-passed}
-use Rattle.stretches.proofs.Telling.{closer}
 use Rattle.kept_counts.proofs.count_listed.Given as goal
 
 abbrev pub invariant-loop-r : goal.invariant-loop-r

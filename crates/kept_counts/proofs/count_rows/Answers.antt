@@ -1,14 +1,10 @@
 -- `kept_counts::count_rows` meets its contract. The loop's invariant: n counts the kept rows below r. Assumes nothing.
-use Prim.Native.Nat.{◌≤◌, ◌-◌}
-use mathlib.Core.Path.{◌≡◌, ◌∙◌, ap}
+use Prim.Native.Nat.{◌-◌}
+use mathlib.Core.Path.{◌∙◌, ap}
 use native.Mathlib.Omega.{arith}
 use borrow.Author.Rules.{rules}
 use lib.ListN.{length}
-use Rattle.format.specs.Bytes.{chosen}
-use Rattle.format.specs.Node.{rows}
-use Rattle.nesting.specs.Rows.{keeps, picks_of}
 use Rattle.nesting.proofs.Sieve.{node-few, len_is, len-few, len-fits, all-rows, byte_small, count_none}
-use Rattle.stretches.specs.Stretches.{Seen}
 use Rattle.kept_counts.proofs.Counting.{count-stretch, stretch-fits}
 use Rattle.stretches.proofs.Minding.{seen_none}
 use Rattle.stretches.proofs.Telling.{closer}

@@ -1,10 +1,8 @@
 -- `list_columns::filter_spans` meets its contract. What is left to write is where the rows from the cursor's place on end; each arm writes a block's ends. Assumes nothing.
-use Rattle.std.proofs.Common.{◌-◌, ◌∙◌, arith, rules}
+use Rattle.std.proofs.Common.{◌-◌, ◌∙◌}
 use Rattle.format.proofs.Put.{same_size}
-use Rattle.predicate.specs.Selection.{kept_by}
 use Rattle.predicate.proofs.Steps.{falls}
-use Rattle.list_columns.specs.Spans.{reach}
-use Rattle.text_columns.proofs.TextWalk.{Summed, sum-none, sum_more, sum_done, sum_same, zero-fits, ends-fit, offsets-done}
+use Rattle.text_columns.proofs.TextWalk.{sum-none, sum_more, sum_done, sum_same, zero-fits, ends-fit, offsets-done}
 use Rattle.list_columns.proofs.SpanLaws.{run-spans, word-spans, list-spans}
 use Rattle.list_columns.proofs.filter_spans.Goals as goal
 

@@ -1,11 +1,8 @@
 -- What the loops of `filter_spans` keep, and their measures. Assumes nothing.
-use Rattle.std.proofs.Common.{◌-◌, ◌∙◌, arith, rules}
-use Rattle.format.proofs.Put.{same_size}
+use Rattle.std.proofs.Common.{◌-◌}
 use Rattle.predicate.specs.Selection.{kept_by}
-use Rattle.predicate.proofs.Steps.{falls}
 use Rattle.list_columns.specs.Spans.{reach}
-use Rattle.text_columns.proofs.TextWalk.{Summed, sum-none, sum_more, sum_done, sum_same, zero-fits, ends-fit, offsets-done}
-use Rattle.list_columns.proofs.SpanLaws.{run-spans, word-spans, list-spans}
+use Rattle.text_columns.proofs.TextWalk.{Summed}
 use Rattle.list_columns.proofs.filter_spans.Given as goal
 
 abbrev pub invariant-loop-a : goal.invariant-loop-a

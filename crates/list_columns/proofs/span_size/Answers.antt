@@ -1,5 +1,5 @@
 -- `list_columns::span_size` meets its contract: two offsets where the bit is 1. Assumes nothing.
-use Rattle.std.proofs.Common.{sym, ◌∙◌, rules}
+use Rattle.std.proofs.Common.{sym, ◌∙◌}
 use Rattle.list_columns.proofs.SpanLaws.{span-order, span-is, size-null}
 use Rattle.list_columns.proofs.span_size.Goals as goal
 

@@ -1,12 +1,10 @@
 -- `list_columns::spans_list` meets its contract. What is left to write is where the rows in the list from k on end. Assumes nothing.
-use Rattle.std.proofs.Common.{◌≡◌, suc, ◌+◌, ◌-◌, ◌≤◌, ◌∷◌, get_or, refl, arith, rules}
+use Rattle.std.proofs.Common.{◌≡◌, ◌+◌, ◌-◌, ◌∷◌, get_or, refl, arith, rules}
 use Rattle.format.specs.Bytes.{bytes_at}
 use Rattle.format.proofs.Numbers.{bytes-none}
 use Rattle.format.proofs.RowLaws.{list-more}
-use Rattle.append.specs.Cells.{Among}
 use Rattle.append.proofs.CellLaws.{among-others}
-use Rattle.texts.proofs.TextLaws.{Ending, begins, end_fits, end-room, turns, ended, same}
-use Rattle.list_columns.specs.Spans.{reach, Spans}
+use Rattle.texts.proofs.TextLaws.{begins, end_fits, end-room, turns, ended, same}
 use Rattle.list_columns.proofs.SpanLaws.{span-first}
 use Rattle.list_columns.proofs.spans_list.Goals as goal
 use Rattle.list_columns.proofs.spans_list.Goals.{In-loop-k}

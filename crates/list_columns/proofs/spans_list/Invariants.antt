@@ -1,13 +1,9 @@
 -- What the loops of `spans_list` keep, and their measures. Assumes nothing.
-use Rattle.std.proofs.Common.{◌≡◌, suc, ◌+◌, ◌-◌, ◌≤◌, ◌∷◌, get_or, refl, arith, rules}
+use Rattle.std.proofs.Common.{◌+◌, ◌-◌, ◌≤◌}
 use Rattle.format.specs.Bytes.{bytes_at}
-use Rattle.format.proofs.Numbers.{bytes-none}
-use Rattle.format.proofs.RowLaws.{list-more}
 use Rattle.append.specs.Cells.{Among}
-use Rattle.append.proofs.CellLaws.{among-others}
-use Rattle.texts.proofs.TextLaws.{Ending, begins, end_fits, end-room, turns, ended, same}
+use Rattle.texts.proofs.TextLaws.{Ending}
 use Rattle.list_columns.specs.Spans.{reach, Spans}
-use Rattle.list_columns.proofs.SpanLaws.{span-first}
 use Rattle.list_columns.proofs.spans_list.Given as goal
 
 abbrev pub invariant-loop-k : goal.invariant-loop-k

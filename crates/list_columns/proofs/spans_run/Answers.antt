@@ -1,9 +1,8 @@
 -- `list_columns::spans_run` meets its contract. What is left to write is where the rows from `row` on end. Assumes nothing.
-use Rattle.std.proofs.Common.{◌≡◌, suc, ◌+◌, ◌-◌, ◌≤◌, ◌∷◌, refl, arith, rules}
+use Rattle.std.proofs.Common.{◌≡◌, suc, ◌+◌, ◌-◌, ◌∷◌, refl, arith, rules}
 use Rattle.format.specs.Slots.{count_up}
 use Rattle.format.proofs.RowLaws.{up_none, up_more}
-use Rattle.texts.proofs.TextLaws.{Ending, begins, end_fits, end-room, turns, ended, same}
-use Rattle.list_columns.specs.Spans.{reach}
+use Rattle.texts.proofs.TextLaws.{begins, end_fits, end-room, turns, ended, same}
 use Rattle.list_columns.proofs.SpanLaws.{spans-fewer}
 use Rattle.list_columns.proofs.spans_run.Goals as goal
 use Rattle.list_columns.proofs.spans_run.Goals.{In-loop-row}

@@ -1,10 +1,8 @@
 -- What the loops of `spans_run` keep, and their measures. Assumes nothing.
-use Rattle.std.proofs.Common.{◌≡◌, suc, ◌+◌, ◌-◌, ◌≤◌, ◌∷◌, refl, arith, rules}
+use Rattle.std.proofs.Common.{◌+◌, ◌-◌, ◌≤◌}
 use Rattle.format.specs.Slots.{count_up}
-use Rattle.format.proofs.RowLaws.{up_none, up_more}
-use Rattle.texts.proofs.TextLaws.{Ending, begins, end_fits, end-room, turns, ended, same}
+use Rattle.texts.proofs.TextLaws.{Ending}
 use Rattle.list_columns.specs.Spans.{reach}
-use Rattle.list_columns.proofs.SpanLaws.{spans-fewer}
 use Rattle.list_columns.proofs.spans_run.Given as goal
 
 abbrev pub invariant-loop-row : goal.invariant-loop-row

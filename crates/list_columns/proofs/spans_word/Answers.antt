@@ -1,14 +1,13 @@
 -- `list_columns::spans_word` meets its contract. What is left to write is where the rows at the bits left in `rest` end. Assumes nothing.
-use Rattle.std.proofs.Common.{◌≡◌, suc, ◌+◌, ◌-◌, ◌*◌, ◌^◌, ◌<◌, ◌≤◌, ◌∷◌, refl, le_trans, arith, rules}
+use Rattle.std.proofs.Common.{◌≡◌, suc, ◌+◌, ◌-◌, ◌∷◌, refl, le_trans, arith, rules}
 use lib.Bits.{bit_and, and_le_l}
 use lib.Count.{count_trailing_zeros}
 use Rattle.format.specs.Rows.{set_rows}
 use Rattle.format.proofs.RowLaws.{set_more, set-none}
 use Rattle.format.proofs.WordLaws.{less_one, clear-lt}
-use Rattle.append.specs.Cells.{Among}
 use Rattle.append.proofs.CellLaws.{among-others}
-use Rattle.texts.proofs.TextLaws.{Ending, begins, end_fits, end-room, turns, ended, same}
-use Rattle.list_columns.specs.Spans.{reach, Spans}
+use Rattle.texts.proofs.TextLaws.{begins, end_fits, end-room, turns, ended, same}
+use Rattle.list_columns.specs.Spans.{Spans}
 use Rattle.list_columns.proofs.SpanLaws.{span-first}
 use Rattle.list_columns.proofs.spans_word.Goals as goal
 use Rattle.list_columns.proofs.spans_word.Goals.{After-wrapping_sub_u64-rest, In-loop-rest}

@@ -1,15 +1,9 @@
 -- What the loops of `spans_word` keep, and their measures. Assumes nothing.
-use Rattle.std.proofs.Common.{◌≡◌, suc, ◌+◌, ◌-◌, ◌*◌, ◌^◌, ◌<◌, ◌≤◌, ◌∷◌, refl, le_trans, arith, rules}
-use lib.Bits.{bit_and, and_le_l}
-use lib.Count.{count_trailing_zeros}
+use Rattle.std.proofs.Common.{◌+◌, ◌-◌, ◌≤◌}
 use Rattle.format.specs.Rows.{set_rows}
-use Rattle.format.proofs.RowLaws.{set_more, set-none}
-use Rattle.format.proofs.WordLaws.{less_one, clear-lt}
 use Rattle.append.specs.Cells.{Among}
-use Rattle.append.proofs.CellLaws.{among-others}
-use Rattle.texts.proofs.TextLaws.{Ending, begins, end_fits, end-room, turns, ended, same}
+use Rattle.texts.proofs.TextLaws.{Ending}
 use Rattle.list_columns.specs.Spans.{reach, Spans}
-use Rattle.list_columns.proofs.SpanLaws.{span-first}
 use Rattle.list_columns.proofs.spans_word.Given as goal
 
 abbrev pub invariant-loop-rest : goal.invariant-loop-rest

@@ -1,6 +1,5 @@
 -- `list_counts::count_spans` meets its contract. The loop's invariant: n is what the picked valid rows of the first k words span. Assumes nothing.
-use Prim.Native.Nat.{◌+◌, ◌-◌, ◌*◌, ◌≤◌}
-use mathlib.Core.Logic.{⊎_elim}
+use Prim.Native.Nat.{◌+◌, ◌-◌, ◌*◌}
 use mathlib.Core.Path.{◌≡◌, refl, ◌∙◌}
 use native.Mathlib.Omega.{arith}
 use Rattle.format.specs.Bytes.{chosen}

@@ -1,14 +1,9 @@
 -- What the loops of `count_spans` keep, and their measures. Assumes nothing.
 use Prim.Native.Nat.{◌+◌, ◌-◌, ◌*◌, ◌≤◌}
-use mathlib.Core.Logic.{⊎_elim}
-use mathlib.Core.Path.{◌≡◌, refl, ◌∙◌}
-use native.Mathlib.Omega.{arith}
+use mathlib.Core.Path.{◌≡◌}
 use Rattle.format.specs.Bytes.{chosen}
-use Rattle.slots.specs.Source.{word_at}
-use Rattle.nesting.proofs.ListAt.{list-wide}
 use Rattle.spans.specs.Spans.{offset_from, spans}
-use Rattle.spans.proofs.ByWords.{no_words, rising_word, word_small, word_fits, word_more, word_none}
-use Rattle.list_counts.proofs.Counts.{counted, list-laid, counted-word, counted-past, none_passed, none-counted, all-counted, passed_over}
+use Rattle.list_counts.proofs.Counts.{counted}
 use Rattle.list_counts.proofs.count_spans.Given as goal
 
 abbrev pub invariant-loop-k : goal.invariant-loop-k

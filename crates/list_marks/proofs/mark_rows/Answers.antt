@@ -2,12 +2,9 @@
 use Prim.Native.Nat.{◌*◌}
 use native.Mathlib.Omega.{arith}
 use borrow.Author.Rules.{rules}
-use lib.ListN.{length}
-use Rattle.format.specs.Rows.{set_rows}
 use Rattle.format.proofs.RowLaws.{set-none}
-use Rattle.marks.proofs.Marking.{Marking, marking-start, marking-less, marking-done}
+use Rattle.marks.proofs.Marking.{marking-start, marking-less, marking-done}
 use Rattle.spans.specs.Spans.{offset_from}
-use Rattle.list_marks.specs.Spans.{in_spans, Spanning}
 use Rattle.list_marks.proofs.Spans.{spans-none, run_small, run_lies, start-lies, spanning-rest, run-range, run-spans}
 use Rattle.list_marks.proofs.mark_rows.Goals as goal
 

@@ -1,10 +1,9 @@
 -- `marks::fill` meets its contract. What is left to write are the bytes from j on. Assumes nothing.
-use Prim.Native.Nat.{◌≤◌, ◌-◌}
+use Prim.Native.Nat.{◌-◌}
 use mathlib.Core.Path.{refl}
 use native.Mathlib.Omega.{arith}
 use borrow.Author.Rules.{rules}
-use lib.ListN.{replicate}
-use Rattle.format.proofs.Put.{Left, whole, stored, done, kept}
+use Rattle.format.proofs.Put.{whole, stored, done, kept}
 use Rattle.marks.proofs.Stored.{same_next, same_none}
 use Rattle.marks.proofs.fill.Goals as goal
 

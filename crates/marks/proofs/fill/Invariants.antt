@@ -1,11 +1,7 @@
 -- What the loops of `fill` keep, and their measures. Assumes nothing.
 use Prim.Native.Nat.{◌≤◌, ◌-◌}
-use mathlib.Core.Path.{refl}
-use native.Mathlib.Omega.{arith}
-use borrow.Author.Rules.{rules}
 use lib.ListN.{replicate}
-use Rattle.format.proofs.Put.{Left, whole, stored, done, kept}
-use Rattle.marks.proofs.Stored.{same_next, same_none}
+use Rattle.format.proofs.Put.{Left}
 use Rattle.marks.proofs.fill.Given as goal
 
 abbrev pub invariant-loop-j : goal.invariant-loop-j

@@ -1,6 +1,5 @@
 -- `marks::mark_byte` meets its contract. Assumes nothing.
 use native.Mathlib.Omega.{arith}
-use borrow.Author.Rules.{rules}
 use Rattle.marks.proofs.Tests.{ones_above, ones-byte}
 use Rattle.marks.proofs.Marking.{marked-byte}
 use Rattle.marks.proofs.mark_byte.Goals as goal

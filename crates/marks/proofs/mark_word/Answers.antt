@@ -2,7 +2,6 @@
 use mathlib.Core.Path.{ap}
 use native.Mathlib.Omega.{arith}
 use lib.Bits.{bit_or}
-use borrow.Author.Rules.{rules}
 use Rattle.marks.proofs.Tests.{ones_above}
 use Rattle.marks.proofs.Marking.{marked-word}
 use Rattle.marks.proofs.mark_word.Goals as goal

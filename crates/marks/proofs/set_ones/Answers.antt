@@ -2,7 +2,6 @@
 use Prim.Native.Nat.{◌-◌, ◌*◌, ◌/◌, ◌%◌, ◌≤◌}
 use mathlib.Core.Bool.{and-eq-true_iff}
 use native.Mathlib.Omega.{arith}
-use borrow.Author.Rules.{rules}
 use borrow.Author.Tests.{leb-true, ltb-true}
 use Rattle.marks.proofs.Tests.{within_none}
 use Rattle.marks.proofs.Marking.{marked-none, marked-range}

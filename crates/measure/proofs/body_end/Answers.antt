@@ -1,10 +1,8 @@
 -- `measure::body_end` meets its contract. The loop's invariant: `at` is the body's length after the first i nodes. Assumes nothing.
 use native.Mathlib.Omega.{arith}
-use mathlib.Core.Path.{◌≡◌, sym}
-use Prim.Native.Nat.{◌≤◌, ◌-◌, ◌*◌, ◌^◌}
+use mathlib.Core.Path.{sym}
+use Prim.Native.Nat.{◌-◌, ◌*◌}
 use native.Mathlib.Numerals.{add-one}
-use Rattle.nesting.specs.Rows.{picks_of}
-use Rattle.measure.specs.Size.{body_end}
 use Rattle.measure.proofs.Sizes.{body-none}
 use Rattle.measure.proofs.NodeEnd.{body-all}
 use Rattle.measure.proofs.body_end.Goals as goal

@@ -1,12 +1,8 @@
 -- What the loops of `body_end` keep, and their measures. Assumes nothing.
-use native.Mathlib.Omega.{arith}
-use mathlib.Core.Path.{◌≡◌, sym}
+use mathlib.Core.Path.{◌≡◌}
 use Prim.Native.Nat.{◌≤◌, ◌-◌, ◌*◌, ◌^◌}
-use native.Mathlib.Numerals.{add-one}
 use Rattle.nesting.specs.Rows.{picks_of}
 use Rattle.measure.specs.Size.{body_end}
-use Rattle.measure.proofs.Sizes.{body-none}
-use Rattle.measure.proofs.NodeEnd.{body-all}
 use Rattle.measure.proofs.body_end.Given as goal
 
 abbrev pub invariant-loop-i : goal.invariant-loop-i

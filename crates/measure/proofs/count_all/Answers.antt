@@ -1,9 +1,8 @@
 -- `measure::count_all` meets its contract. The loop's invariant: the first i nodes are counted. Assumes nothing.
 use native.Mathlib.Omega.{arith}
-use mathlib.Core.Path.{◌≡◌, refl}
-use Prim.Native.Nat.{◌≤◌, ◌-◌}
-use lib.ListN.{length, length-set}
-use Rattle.nesting.specs.Rows.{Counts, picks_of}
+use mathlib.Core.Path.{refl}
+use Prim.Native.Nat.{◌-◌}
+use lib.ListN.{length-set}
 use Rattle.pack.proofs.Stack.{holds_more}
 use Rattle.nesting.proofs.Arrays.{holds-less}
 use Rattle.nesting.proofs.Counted.{ready_with, counted-first}

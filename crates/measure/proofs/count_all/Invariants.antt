@@ -1,12 +1,8 @@
 -- What the loops of `count_all` keep, and their measures. Assumes nothing.
-use native.Mathlib.Omega.{arith}
-use mathlib.Core.Path.{◌≡◌, refl}
+use mathlib.Core.Path.{◌≡◌}
 use Prim.Native.Nat.{◌≤◌, ◌-◌}
-use lib.ListN.{length, length-set}
+use lib.ListN.{length}
 use Rattle.nesting.specs.Rows.{Counts, picks_of}
-use Rattle.pack.proofs.Stack.{holds_more}
-use Rattle.nesting.proofs.Arrays.{holds-less}
-use Rattle.nesting.proofs.Counted.{ready_with, counted-first}
 use Rattle.measure.proofs.count_all.Given as goal
 
 abbrev pub invariant-loop-i : goal.invariant-loop-i

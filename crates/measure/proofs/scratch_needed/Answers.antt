@@ -1,9 +1,7 @@
 -- `measure::scratch_needed` meets its contract. The loop's invariant: `need` is what the first i nodes take. Assumes nothing.
 use native.Mathlib.Omega.{arith}
-use mathlib.Core.Path.{◌≡◌}
-use Prim.Native.Nat.{◌≤◌, ◌-◌, ◌*◌}
-use Rattle.format.specs.Bytes.{sum_below}
-use Rattle.nesting.proofs.Scratch.{share, scratch-none, scratch-all, scratch-more, scratch-same, child-inside, child-few, bytes-few}
+use Prim.Native.Nat.{◌-◌, ◌*◌}
+use Rattle.nesting.proofs.Scratch.{scratch-none, scratch-all, scratch-more, scratch-same, child-inside, child-few, bytes-few}
 use Rattle.measure.proofs.scratch_needed.Goals as goal
 
 pub node_count-n-requires : goal.node_count-n-requires

@@ -1,9 +1,8 @@
 -- What the loops of `scratch_needed` keep, and their measures. Assumes nothing.
-use native.Mathlib.Omega.{arith}
 use mathlib.Core.Path.{◌≡◌}
 use Prim.Native.Nat.{◌≤◌, ◌-◌, ◌*◌}
 use Rattle.format.specs.Bytes.{sum_below}
-use Rattle.nesting.proofs.Scratch.{share, scratch-none, scratch-all, scratch-more, scratch-same, child-inside, child-few, bytes-few}
+use Rattle.nesting.proofs.Scratch.{share}
 use Rattle.measure.proofs.scratch_needed.Given as goal
 
 abbrev pub invariant-loop-i : goal.invariant-loop-i

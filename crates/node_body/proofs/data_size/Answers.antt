@@ -1,5 +1,4 @@
 -- `node_body::data_size` meets its contract, kind by kind. Assumes nothing.
-use borrow.Author.Rules.{rules}
 use Rattle.node_body.proofs.data_size.Goals as goal
 
 pub returns-in-Bits : goal.returns-in-Bits

@@ -1,5 +1,4 @@
 -- `node_body::put_buffers` meets its contract: three buffers, one after the other. Assumes nothing.
-use borrow.Author.Rules.{rules}
 use Rattle.buffers.specs.Place.{rows_by}
 use Rattle.node_body.proofs.AddLaws.{puts-order, bitmap-room, first-room, second-room, added}
 use Rattle.node_body.proofs.put_buffers.Goals as goal

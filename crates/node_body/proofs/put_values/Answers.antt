@@ -1,7 +1,6 @@
 -- `node_body::put_values` meets its contract: one buffer, by the list's offsets. Assumes nothing.
 use Prim.Native.Nat.{suc}
 use mathlib.Core.Path.{◌≡◌}
-use borrow.Author.Rules.{rules}
 use Rattle.format.specs.Kept.{kept_spans}
 use Rattle.format.specs.Node.{param}
 use Rattle.buffers.specs.Place.{rows_by}

@@ -1,6 +1,5 @@
 -- `nodes::filter_first` meets its contract: each kind has its form of buffer. Assumes nothing.
 use mathlib.Core.Path.{refl, sym, ◌∙◌}
-use borrow.Author.Rules.{rules}
 use Rattle.format.specs.Accepted as Accepted
 use Rattle.buffers.specs.Place.{rows_by}
 use Rattle.nodes.specs.Place.{of_views, of_lists32, of_lists64, of_union}

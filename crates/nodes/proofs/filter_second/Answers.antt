@@ -1,6 +1,5 @@
 -- `nodes::filter_second` meets its contract: data, sizes, or nothing. Assumes nothing.
 use mathlib.Core.Path.{refl, sym, ◌∙◌}
-use borrow.Author.Rules.{rules}
 use Rattle.buffers.specs.Place.{rows_by}
 use Rattle.nodes.specs.Place.{sizes32, sizes64}
 use Rattle.buffers.proofs.PutLaws.{puts_none}

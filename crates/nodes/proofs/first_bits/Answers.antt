@@ -1,7 +1,6 @@
 -- `nodes::first_bits` meets its contract: the bits from row 0 on. Assumes nothing.
 use Prim.Native.Nat.{◌+◌, ◌*◌}
 use mathlib.Core.Path.{refl}
-use borrow.Author.Rules.{rules}
 use Rattle.buffers.specs.Place.{rows_by}
 use Rattle.nodes.proofs.BufferLaws.{bits_small, first-bits-are}
 use Rattle.nodes.proofs.first_bits.Goals as goal

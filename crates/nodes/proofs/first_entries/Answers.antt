@@ -1,5 +1,4 @@
 -- `nodes::first_entries` meets its contract: the entries from row 0 on. Assumes nothing.
-use borrow.Author.Rules.{rules}
 use Rattle.predicate.proofs.Holding.{sourced-readable}
 use Rattle.buffers.specs.Place.{rows_by}
 use Rattle.nodes.proofs.BufferLaws.{first-copies, width-copies, narrow, entries-lie, place_is}

@@ -1,7 +1,6 @@
 -- `nodes::first_offsets64` meets its contract: the rows lie in the journal. Assumes nothing.
 use mathlib.Core.Logic.{inr}
 use mathlib.Core.Path.{refl}
-use borrow.Author.Rules.{rules}
 use Rattle.predicate.proofs.Holding.{sourced-readable}
 use Rattle.buffers.specs.Place.{rows_by}
 use Rattle.nodes.proofs.BufferLaws.{cells-64, first-texts-are, texts-lie, place_is}

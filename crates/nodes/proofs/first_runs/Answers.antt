@@ -1,5 +1,4 @@
 -- `nodes::first_runs` meets its contract: the run ends lie in the journal and rise. Assumes nothing.
-use borrow.Author.Rules.{rules}
 use Rattle.buffers.specs.Place.{rows_by}
 use Rattle.nodes.proofs.BufferLaws.{first-runs-by, runs-lie-by}
 use Rattle.nodes.proofs.first_runs.Goals as goal

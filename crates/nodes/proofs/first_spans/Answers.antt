@@ -1,7 +1,6 @@
 -- `nodes::first_spans` meets its contract: without a bitmap the offsets of a byte column, else by the rows' bits. Assumes nothing.
 use Prim.Native.Nat.{◌+◌, ◌*◌}
 use mathlib.Core.Path.{refl}
-use borrow.Author.Rules.{rules}
 use Rattle.predicate.proofs.Holding.{sourced-readable}
 use Rattle.buffers.specs.Place.{rows_by}
 use Rattle.nodes.proofs.BufferLaws.{place_is}

@@ -1,7 +1,6 @@
 -- `nodes::first_values` meets its contract: what the list's rows have of their own are the entries of its child. Assumes nothing.
 use Prim.Native.Nat.{suc, ◌+◌, ◌*◌}
 use mathlib.Core.Path.{◌≡◌, ◌∙◌}
-use borrow.Author.Rules.{rules}
 use Rattle.format.specs.Node.{first_at, skip}
 use Rattle.predicate.proofs.Holding.{sourced-readable}
 use Rattle.buffers.specs.Place.{rows_by}

@@ -2,7 +2,6 @@
 use Prim.Native.Nat.{ℕ, ◌*◌, ◌^◌, ◌≤◌}
 use native.Mathlib.Nat.{mul-le-mul}
 use native.Mathlib.Omega.{arith}
-use borrow.Author.Rules.{rules}
 use Rattle.nodes.proofs.row_zero.Goals as goal
 
 small : (w k : ℕ) → w ≤ 1024 → k ≤ 2 ^ 32 → w * k ≤ 1024 * 2 ^ 32

@@ -1,5 +1,4 @@
 -- `nodes::second_sizes` meets its contract: the sizes from row 0 on. Assumes nothing.
-use borrow.Author.Rules.{rules}
 use Rattle.predicate.proofs.Holding.{sourced-readable}
 use Rattle.buffers.specs.Place.{rows_by}
 use Rattle.nodes.proofs.BufferLaws.{second-sizes-are, width-sizes, sizes-lie, size-place-is}

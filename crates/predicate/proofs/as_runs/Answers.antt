@@ -1,5 +1,4 @@
 -- `predicate::as_runs` meets its contract: either test. Assumes nothing.
-use Rattle.std.proofs.Common.{rules}
 use Rattle.predicate.proofs.as_runs.Goals as goal
 
 pub returns : goal.returns

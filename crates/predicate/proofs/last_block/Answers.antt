@@ -1,5 +1,5 @@
 -- `predicate::last_block` meets its contract: what is left of the word gives its rows. Assumes nothing.
-use Rattle.std.proofs.Common.{refl, arith, rules}
+use Rattle.std.proofs.Common.{refl, arith}
 use Rattle.slots.proofs.Reading.{slot-past}
 use Rattle.predicate.proofs.Steps.{word-leaves, last-leaves}
 use Rattle.predicate.proofs.last_block.Goals as goal

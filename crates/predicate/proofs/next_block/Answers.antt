@@ -1,5 +1,5 @@
 -- `predicate::next_block` meets its contract: each arm cites the law of its form of block. Assumes nothing.
-use Rattle.std.proofs.Common.{◌≡◌, ◌+◌, ◌<◌, true, length, refl, ap, ◌∙◌, arith, rules}
+use Rattle.std.proofs.Common.{◌≡◌, ◌+◌, ◌<◌, true, length, refl, ap, ◌∙◌, arith}
 use Rattle.slots.specs.Source.{slot_of, Lies}
 use Rattle.predicate.specs.declared.Held.TheVariants.{Stored}
 use Rattle.predicate.specs.declared.Selection.TheVariants.{Everything, Runs, Rows}

@@ -1,6 +1,5 @@
 -- `predicate::next_word` meets its contract. The rows from `place` up to word w are not kept, and x is what is left of that word. Assumes nothing.
-use Rattle.std.proofs.Common.{◌≡◌, ◌+◌, ◌-◌, ◌*◌, ◌/◌, ◌%◌, ◌<◌, ◌≤◌, sym, ◌∙◌, ⊎_elim, arith, rules}
-use Rattle.format.specs.Slots.{word_from, after}
+use Rattle.std.proofs.Common.{◌≡◌, ◌+◌, ◌-◌, ◌*◌, ◌/◌, ◌%◌, ◌≤◌, sym, ◌∙◌, arith}
 use Rattle.format.proofs.WordLaws.{from-clear}
 use Rattle.slots.specs.Source.{slot_of}
 use Rattle.scan.specs.Asked.{Blank}

@@ -1,14 +1,8 @@
 -- What the loops of `next_word` keep, and their measures. Assumes nothing.
-use Rattle.std.proofs.Common.{◌≡◌, ◌+◌, ◌-◌, ◌*◌, ◌/◌, ◌%◌, ◌<◌, ◌≤◌, sym, ◌∙◌, ⊎_elim, arith, rules}
+use Rattle.std.proofs.Common.{◌≡◌, ◌+◌, ◌-◌, ◌*◌, ◌%◌, ◌≤◌}
 use Rattle.format.specs.Slots.{word_from, after}
-use Rattle.format.proofs.WordLaws.{from-clear}
 use Rattle.slots.specs.Source.{slot_of}
-use Rattle.scan.specs.Asked.{Blank}
-use Rattle.scan.proofs.Blanks.{blank_none}
-use Rattle.scan.proofs.Scan.{Scanned, starts, passed, skips, fresh}
-use Rattle.predicate.specs.Blocks.{Found}
-use Rattle.predicate.proofs.Picks.{picks-over}
-use Rattle.predicate.proofs.WordRuns.{worded-on}
+use Rattle.scan.proofs.Scan.{Scanned}
 use Rattle.predicate.proofs.next_word.Given as goal
 
 abbrev pub invariant-loop-x : goal.invariant-loop-x

@@ -1,5 +1,5 @@
 -- `predicate::run_end` meets its contract: words of ones, and the ones below the lowest zero of the word after them. Assumes nothing.
-use Rattle.std.proofs.Common.{◌-◌, ◌≤◌, arith, rules}
+use Rattle.std.proofs.Common.{◌-◌, ◌≤◌, arith}
 use lib.Count.{count_trailing_zeros, trailing_le}
 use Rattle.format.proofs.SlotLaws.{all_join}
 use Rattle.predicate.proofs.WordRuns.{ones_low}

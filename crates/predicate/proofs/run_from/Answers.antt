@@ -1,5 +1,5 @@
 -- `predicate::run_from` meets its contract: what is left of the word is empty, or holds the run's start; the run ends in the word or goes on. Assumes nothing.
-use Rattle.std.proofs.Common.{◌≡◌, ◌+◌, ◌-◌, ◌*◌, ◌/◌, ◌%◌, ◌^◌, ◌<◌, refl, ⊎_elim, le_refl, eq-zero-or-pos, arith, rules}
+use Rattle.std.proofs.Common.{◌≡◌, ◌+◌, ◌-◌, ◌*◌, ◌/◌, ◌%◌, ◌^◌, ◌<◌, refl, ⊎_elim, le_refl, eq-zero-or-pos, arith}
 use lib.Count.{count_trailing_zeros}
 use Rattle.format.proofs.SlotLaws.{all_none}
 use Rattle.format.proofs.WordLaws.{from-clear}

@@ -1,5 +1,5 @@
 -- `predicate::selection_of` meets its contract: `selection_for` computes at the route that each arm knows. Assumes nothing.
-use Rattle.std.proofs.Common.{◌≡◌, ap, ⊎_elim, rules}
+use Rattle.std.proofs.Common.{◌≡◌, ap}
 use Rattle.predicate.specs.declared.Selection.TheVariants.{Runs, Rows}
 use Rattle.predicate.specs.Selection.{held}
 use Rattle.predicate.proofs.selection_of.Goals as goal

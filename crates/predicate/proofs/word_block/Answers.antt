@@ -1,6 +1,6 @@
 -- `predicate::word_block` meets its contract: the word's rows one by one, or its first run. Assumes nothing.
-use Rattle.std.proofs.Common.{◌+◌, ◌-◌, ◌*◌, ◌/◌, ◌%◌, ◌^◌, ◌<◌, refl, arith, rules}
-use lib.Count.{count_trailing_zeros, trailing_le}
+use Rattle.std.proofs.Common.{◌+◌, ◌-◌, ◌*◌, ◌/◌, ◌%◌, ◌^◌, ◌<◌, refl, arith}
+use lib.Count.{count_trailing_zeros}
 use Rattle.slots.specs.Source.{slot_of}
 use Rattle.slots.proofs.Reading.{slot-past}
 use Rattle.scan.proofs.Scan.{Hit}

@@ -1,5 +1,4 @@
 -- `prepare::mask_bits` meets its contract: the fields of node 0 that a source is read by. Assumes nothing.
-use borrow.Author.Rules.{rules}
 use Rattle.format.specs.Node.{has_no_bitmap}
 use Rattle.prepare.proofs.mask_bits.Goals as goal
 

@@ -1,6 +1,5 @@
 -- `prepare::prepare` meets its contract: the mask's own slip, or the answer of an accepted one. Assumes nothing.
 use native.Mathlib.Omega.{arith}
-use borrow.Author.Rules.{rules}
 use Rattle.prepare.proofs.Slips.{unaccepted}
 use Rattle.prepare.proofs.prepare.Goals as goal
 

@@ -1,6 +1,5 @@
 -- `prepare::prepare_accepted` meets its contract: 11, or what is left. Assumes nothing.
 use mathlib.Core.Path.{sym, ◌∙◌}
-use borrow.Author.Rules.{rules}
 use Rattle.slots.proofs.Masked.{mask-lies, mask-count}
 use Rattle.prepare.specs.Prepare.{Counted}
 use Rattle.prepare.proofs.Slips.{listed, miscounted}

@@ -1,7 +1,6 @@
 -- `prepare::prepare_list` meets its contract: no list is asked for, it is short, or the route's entries are stored. Assumes nothing.
 use mathlib.Core.Path.{◌≡◌, ap, ◌∙◌}
 use native.Mathlib.Omega.{arith}
-use borrow.Author.Rules.{rules}
 use borrow.Author.Tests.{not-true, not-false}
 use lib.ListN.{length}
 use Rattle.format.specs.Mask.{entries}

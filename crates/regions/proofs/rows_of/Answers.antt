@@ -1,6 +1,5 @@
 -- `regions::rows_of` meets its contract. Assumes nothing.
 use native.Mathlib.Omega.{arith}
-use borrow.Author.Rules.{rules}
 use Rattle.regions.proofs.Tops.{told-root, long-few, parent-low, told-runs, told-carried}
 use Rattle.regions.proofs.rows_of.Goals as goal
 

@@ -2,7 +2,6 @@
 use native.Mathlib.Omega.{arith}
 use Rattle.format.proofs.Put.{then}
 use Rattle.report.proofs.Decimal.{size-most}
-use borrow.Author.Rules.{rules}
 use Rattle.report.proofs.put_count.Goals as goal
 
 pub put_decimal-requires : goal.put_decimal-requires

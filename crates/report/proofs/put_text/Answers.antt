@@ -2,7 +2,6 @@
 use Rattle.format.proofs.Put.{named}
 use lib.Seq.{take-length}
 use Rattle.format.specs.Bytes.{bytes_at}
-use borrow.Author.Rules.{rules}
 use Rattle.report.proofs.put_text.Goals as goal
 
 pub returns : goal.returns

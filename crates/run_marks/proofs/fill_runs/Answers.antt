@@ -1,16 +1,12 @@
 -- `run_marks::fill_runs` meets its contract. What is left to write are the bytes of the runs from r on, and run r starts at lo; what lies before `at` is as it was. Assumes nothing.
-use Prim.Native.Nat.{suc, ◌≤◌, ◌-◌}
+use Prim.Native.Nat.{◌-◌}
 use mathlib.Core.Bool.{cond}
 use mathlib.Core.Path.{◌≡◌, refl, sym, ap, ◌∙◌}
 use native.Mathlib.Omega.{arith}
 use borrow.Author.Rules.{rules}
 use lib.ListN.{take}
 use lib.Seq.{length-take-le, take-set-le}
-use Rattle.format.specs.Bytes.{packed}
-use Rattle.format.specs.Node.{rows}
-use Rattle.format.specs.Slots.{slots_from}
-use Rattle.format.proofs.Put.{Left, whole, kept}
-use Rattle.nesting.specs.Rows.{hands_on, picks_of, edge}
+use Rattle.format.proofs.Put.{whole, kept}
 use Rattle.nesting.proofs.RunEdges.{few, runs-are, runs-small, edge-first}
 use Rattle.run_marks.proofs.Packing.{rows_all, byte-room, byte-stored, bytes-done}
 use Rattle.run_marks.proofs.RunBits.{runs-few}

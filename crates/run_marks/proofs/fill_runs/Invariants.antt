@@ -1,19 +1,13 @@
 -- What the loops of `fill_runs` keep, and their measures. Assumes nothing.
 use Prim.Native.Nat.{suc, ◌≤◌, ◌-◌}
 use mathlib.Core.Bool.{cond}
-use mathlib.Core.Path.{◌≡◌, refl, sym, ap, ◌∙◌}
-use native.Mathlib.Omega.{arith}
-use borrow.Author.Rules.{rules}
+use mathlib.Core.Path.{◌≡◌}
 use lib.ListN.{take}
-use lib.Seq.{length-take-le, take-set-le}
 use Rattle.format.specs.Bytes.{packed}
 use Rattle.format.specs.Node.{rows}
 use Rattle.format.specs.Slots.{slots_from}
-use Rattle.format.proofs.Put.{Left, whole, kept}
+use Rattle.format.proofs.Put.{Left}
 use Rattle.nesting.specs.Rows.{hands_on, picks_of, edge}
-use Rattle.nesting.proofs.RunEdges.{few, runs-are, runs-small, edge-first}
-use Rattle.run_marks.proofs.Packing.{rows_all, byte-room, byte-stored, bytes-done}
-use Rattle.run_marks.proofs.RunBits.{runs-few}
 use Rattle.run_marks.proofs.fill_runs.Given as goal
 
 abbrev pub invariant-loop-r : goal.invariant-loop-r

@@ -1,7 +1,6 @@
 -- `run_marks::runs_byte` meets its contract. The loop's invariant: x has the runs before r, and run r starts at lo. Assumes nothing.
 use Prim.Native.Nat.{◌+◌, ◌*◌, ◌%◌, ◌^◌, ◌≤◌, ◌-◌}
 use mathlib.Core.Bool.{and-eq-true_iff}
-use mathlib.Core.Logic.{⊎_elim}
 use mathlib.Core.Path.{◌≡◌, refl, ◌∙◌}
 use mir.Val.{bool_byte}
 use native.Mathlib.Omega.{arith}
@@ -9,7 +8,7 @@ use borrow.Author.Tests.{leb-true}
 use Rattle.format.specs.Slots.{word_from}
 use Rattle.slots.specs.Source.{slot_of}
 use Rattle.scan.specs.Asked.{any_in}
-use Rattle.nesting.specs.Rows.{hands_on, picks_of, edge}
+use Rattle.nesting.specs.Rows.{hands_on, picks_of}
 use Rattle.nesting.proofs.RunEdges.{edge-last}
 use Rattle.run_marks.proofs.Packing.{word_none, word_byte, word_next}
 use Rattle.run_marks.proofs.RunBits.{runs-few, range-order, run-handed}

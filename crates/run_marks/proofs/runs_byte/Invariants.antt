@@ -1,18 +1,8 @@
 -- What the loops of `runs_byte` keep, and their measures. Assumes nothing.
-use Prim.Native.Nat.{◌+◌, ◌*◌, ◌%◌, ◌^◌, ◌≤◌, ◌-◌}
-use mathlib.Core.Bool.{and-eq-true_iff}
-use mathlib.Core.Logic.{⊎_elim}
-use mathlib.Core.Path.{◌≡◌, refl, ◌∙◌}
-use mir.Val.{bool_byte}
-use native.Mathlib.Omega.{arith}
-use borrow.Author.Tests.{leb-true}
+use Prim.Native.Nat.{◌≤◌, ◌-◌}
+use mathlib.Core.Path.{◌≡◌}
 use Rattle.format.specs.Slots.{word_from}
-use Rattle.slots.specs.Source.{slot_of}
-use Rattle.scan.specs.Asked.{any_in}
 use Rattle.nesting.specs.Rows.{hands_on, picks_of, edge}
-use Rattle.nesting.proofs.RunEdges.{edge-last}
-use Rattle.run_marks.proofs.Packing.{word_none, word_byte, word_next}
-use Rattle.run_marks.proofs.RunBits.{runs-few, range-order, run-handed}
 use Rattle.run_marks.proofs.runs_byte.Given as goal
 
 abbrev pub invariant-loop-r : goal.invariant-loop-r

@@ -1,6 +1,5 @@
 -- `runs::count_kept` meets its contract: `kept_by` computes at the selection that each arm knows. Assumes nothing.
 use mathlib.Core.Path.{sym}
-use borrow.Author.Rules.{rules}
 use Rattle.runs.proofs.CountLaws.{count_none, count-all}
 use Rattle.runs.proofs.count_kept.Goals as goal
 

@@ -1,8 +1,5 @@
 -- `runs::count_short` meets its contract: the ones of one word. Assumes nothing.
-use Prim.Native.Nat.{◌≤◌}
 use native.Mathlib.Omega.{arith}
-use borrow.Author.Rules.{rules}
-use lib.Count.{ones}
 use Rattle.runs.proofs.CountLaws.{ones-picks, ones-few}
 use Rattle.runs.proofs.count_short.Goals as goal
 

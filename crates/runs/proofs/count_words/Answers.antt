@@ -2,11 +2,8 @@
 use Prim.Native.Nat.{◌+◌, ◌≤◌, ◌-◌}
 use mathlib.Core.Path.{◌≡◌, refl}
 use native.Mathlib.Omega.{arith}
-use borrow.Author.Rules.{rules}
 use lib.Count.{ones}
-use lib.ListN.{length}
 use Rattle.format.specs.Slots.{picks_from}
-use Rattle.slots.specs.Source.{slot_of}
 use Rattle.runs.proofs.CountLaws.{ones-few, count-more}
 use Rattle.runs.proofs.count_words.Goals as goal
 use Rattle.runs.proofs.count_words.Goals.{After-window, After-window-2}

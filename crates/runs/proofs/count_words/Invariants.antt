@@ -1,13 +1,9 @@
 -- What the loops of `count_words` keep, and their measures. Assumes nothing.
 use Prim.Native.Nat.{◌+◌, ◌≤◌, ◌-◌}
-use mathlib.Core.Path.{◌≡◌, refl}
-use native.Mathlib.Omega.{arith}
-use borrow.Author.Rules.{rules}
-use lib.Count.{ones}
+use mathlib.Core.Path.{◌≡◌}
 use lib.ListN.{length}
 use Rattle.format.specs.Slots.{picks_from}
 use Rattle.slots.specs.Source.{slot_of}
-use Rattle.runs.proofs.CountLaws.{ones-few, count-more}
 use Rattle.runs.proofs.count_words.Given as goal
 
 abbrev pub invariant-loop-i : goal.invariant-loop-i

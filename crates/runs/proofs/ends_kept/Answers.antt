@@ -8,7 +8,7 @@ use Rattle.format.proofs.Put.{same_size}
 use Rattle.format.proofs.SlotLaws.{count-le}
 use Rattle.predicate.specs.Selection.{kept_by}
 use Rattle.runs.specs.Groups.{end_at, start_at, size_at}
-use Rattle.runs.proofs.GroupLaws.{Grouped, start_first, start-next, end-inside, size-picks, range-order, grouped-none, grouped-miss, grouped-hit, grouped-room}
+use Rattle.runs.proofs.GroupLaws.{start_first, start-next, end-inside, size-picks, range-order, grouped-none, grouped-miss, grouped-hit, grouped-room}
 use Rattle.runs.proofs.ends_kept.Goals as goal
 use Rattle.runs.proofs.ends_kept.Goals.{After-clipped-hi, After-count_kept-size, In-loop-j}
 

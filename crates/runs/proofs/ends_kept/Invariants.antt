@@ -1,14 +1,10 @@
 -- What the loops of `ends_kept` keep, and their measures. Assumes nothing.
-use Prim.Native.Nat.{ℕ, ◌+◌, ◌-◌, ◌*◌, ◌≤◌, min}
-use mathlib.Core.Path.{◌≡◌, ap, ◌∙◌}
-use native.Mathlib.Omega.{arith}
-use lib.ListN.{length}
+use Prim.Native.Nat.{◌+◌, ◌-◌, ◌≤◌, min}
+use mathlib.Core.Path.{◌≡◌}
 use Rattle.format.specs.Slots.{picks_from}
-use Rattle.format.proofs.Put.{same_size}
-use Rattle.format.proofs.SlotLaws.{count-le}
 use Rattle.predicate.specs.Selection.{kept_by}
-use Rattle.runs.specs.Groups.{end_at, start_at, size_at}
-use Rattle.runs.proofs.GroupLaws.{Grouped, start_first, start-next, end-inside, size-picks, range-order, grouped-none, grouped-miss, grouped-hit, grouped-room}
+use Rattle.runs.specs.Groups.{start_at, size_at}
+use Rattle.runs.proofs.GroupLaws.{Grouped}
 use Rattle.runs.proofs.ends_kept.Given as goal
 
 abbrev pub invariant-loop-j : goal.invariant-loop-j

@@ -1,7 +1,6 @@
 -- `runs::ends_picked` meets its contract. The ends of the first j groups are written, and lo is where run j starts among the rows. Assumes nothing.
 use Prim.Native.Nat.{ℕ, ◌+◌, ◌-◌, ◌*◌, ◌≤◌, min}
 use mathlib.Core.Bool.{and-eq-true_iff}
-use mathlib.Core.Logic.{⊎_elim}
 use mathlib.Core.Path.{◌≡◌, ap, ◌∙◌}
 use native.Mathlib.Omega.{arith}
 use borrow.Author.Tests.{leb-true}
@@ -11,7 +10,7 @@ use Rattle.format.proofs.Put.{same_size}
 use Rattle.format.proofs.SlotLaws.{count-le}
 use Rattle.slots.specs.Source.{slot_of}
 use Rattle.runs.specs.Groups.{end_at, start_at, size_at}
-use Rattle.runs.proofs.GroupLaws.{Grouped, start_first, start-next, end-inside, size-picks, range-order, grouped-none, grouped-miss, grouped-hit, grouped-room}
+use Rattle.runs.proofs.GroupLaws.{start_first, start-next, end-inside, size-picks, range-order, grouped-none, grouped-miss, grouped-hit, grouped-room}
 use Rattle.runs.proofs.ends_picked.Goals as goal
 use Rattle.runs.proofs.ends_picked.Goals.{After-clipped-hi, In-loop-j, Joined-hi-lo}
 use mathlib.Core.Logic.{inl, inr}

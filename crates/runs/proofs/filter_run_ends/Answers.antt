@@ -1,5 +1,4 @@
 -- `runs::filter_run_ends` meets its contract: where bits say which rows are kept, `kept_by` computes to their slots. Assumes nothing.
-use borrow.Author.Rules.{rules}
 use Rattle.runs.proofs.filter_run_ends.Goals as goal
 
 pub ends_picked-requires : goal.ends_picked-requires

@@ -1,6 +1,5 @@
 -- `runs::number` meets its contract: each arm is its width. Assumes nothing.
 use mathlib.Core.Path.{◌∙◌}
-use borrow.Author.Rules.{rules}
 use Rattle.format.proofs.Accepted.{wide-last}
 use Rattle.runs.proofs.number.Goals as goal
 

@@ -1,6 +1,5 @@
 -- `runs::put_end` meets its contract: each arm is its width, and of a number only the bytes that fit are written. Assumes nothing.
 use mathlib.Core.Path.{◌≡◌, sym, ◌∙◌}
-use borrow.Author.Rules.{rules}
 use Rattle.format.proofs.Accepted.{wide-last}
 use Rattle.format.proofs.Numbers.{to_le-mod}
 use Rattle.format.proofs.Put.{named}

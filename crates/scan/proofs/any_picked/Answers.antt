@@ -1,5 +1,5 @@
 -- `scan::any_picked` meets its contract: no slot is picked from the last on, so the search ends there or at hi. Assumes nothing.
-use Rattle.std.proofs.Common.{◌≤◌, false, sym, ⊎_elim, arith}
+use Rattle.std.proofs.Common.{◌≤◌, false, sym, arith}
 use Rattle.format.specs.Slots.{All}
 use Rattle.format.proofs.SlotLaws.{all_none, all_join}
 use Rattle.slots.specs.Source.{slot_of}

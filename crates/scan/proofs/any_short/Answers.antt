@@ -1,5 +1,5 @@
 -- `scan::any_short` meets its contract: the word of the range. Assumes nothing.
-use Rattle.std.proofs.Common.{arith, rules}
+use Rattle.std.proofs.Common.{arith}
 use Rattle.scan.proofs.Asked.{word-any}
 use Rattle.scan.proofs.any_short.Goals as goal
 

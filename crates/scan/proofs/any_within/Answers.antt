@@ -1,5 +1,5 @@
 -- `scan::any_within` meets its contract: the word of the range, or a search. Assumes nothing.
-use Rattle.std.proofs.Common.{arith, rules}
+use Rattle.std.proofs.Common.{arith}
 use Rattle.scan.proofs.Asked.{word-any}
 use Rattle.scan.proofs.any_within.Goals as goal
 

@@ -1,7 +1,5 @@
 -- `scan::blank_end` meets its contract: no bit is set in the bytes of the four words that are passed. Assumes nothing.
-use Rattle.std.proofs.Common.{◌-◌, ◌*◌, arith, rules}
-use Rattle.slots.specs.Source.{slot_of}
-use Rattle.scan.specs.Asked.{Blank}
+use Rattle.std.proofs.Common.{◌-◌, arith}
 use Rattle.scan.proofs.Blanks.{bytes-blank, blank_none, blank-on}
 use Rattle.scan.proofs.blank_end.Goals as goal
 

@@ -1,8 +1,7 @@
 -- What the loops of `blank_end` keep, and their measures. Assumes nothing.
-use Rattle.std.proofs.Common.{◌-◌, ◌*◌, arith, rules}
+use Rattle.std.proofs.Common.{◌-◌, ◌*◌}
 use Rattle.slots.specs.Source.{slot_of}
 use Rattle.scan.specs.Asked.{Blank}
-use Rattle.scan.proofs.Blanks.{bytes-blank, blank_none, blank-on}
 use Rattle.scan.proofs.blank_end.Given as goal
 
 abbrev pub invariant-loop-w : goal.invariant-loop-w

@@ -1,7 +1,6 @@
 -- `scan::next_row` meets its contract. The slots from `from` up to word w fail, and x is what is left of that word. Assumes nothing.
-use Rattle.std.proofs.Common.{◌≡◌, ◌+◌, ◌-◌, ◌*◌, ◌<◌, sym, ◌∙◌, arith, rules}
+use Rattle.std.proofs.Common.{◌+◌, ◌-◌, ◌*◌, ◌<◌, sym, ◌∙◌, arith}
 use lib.Count.{count_trailing_zeros}
-use Rattle.format.specs.Slots.{word_from, after}
 use Rattle.format.proofs.SlotLaws.{all_none}
 use Rattle.slots.specs.Source.{slot_of}
 use Rattle.scan.proofs.Scan.{Scanned, Hit, starts, hit, passed, fresh, sought-none, sought-here, sought-past}

@@ -1,10 +1,8 @@
 -- What the loops of `next_row` keep, and their measures. Assumes nothing.
-use Rattle.std.proofs.Common.{◌≡◌, ◌+◌, ◌-◌, ◌*◌, ◌<◌, sym, ◌∙◌, arith, rules}
-use lib.Count.{count_trailing_zeros}
+use Rattle.std.proofs.Common.{◌≡◌, ◌+◌, ◌-◌, ◌*◌, ◌<◌}
 use Rattle.format.specs.Slots.{word_from, after}
-use Rattle.format.proofs.SlotLaws.{all_none}
 use Rattle.slots.specs.Source.{slot_of}
-use Rattle.scan.proofs.Scan.{Scanned, Hit, starts, hit, passed, fresh, sought-none, sought-here, sought-past}
+use Rattle.scan.proofs.Scan.{Scanned}
 use Rattle.scan.proofs.next_row.Given as goal
 
 abbrev pub invariant-loop-x : goal.invariant-loop-x

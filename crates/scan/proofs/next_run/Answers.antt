@@ -1,9 +1,8 @@
 -- `scan::next_run` meets its contract. Both loops keep `Scanned`, and x is what is left of word w: its set bits at or after e. Each way out of the
 -- outer loop gives `Ended`, where they meet. Assumes nothing.
-use Rattle.std.proofs.Common.{◌≡◌, ◌+◌, ◌-◌, ◌*◌, ◌<◌, ◌≤◌, sym, ◌∙◌, ⊎_elim, arith, rules}
+use Rattle.std.proofs.Common.{◌≡◌, ◌+◌, ◌-◌, ◌*◌, ◌<◌, ◌≤◌, sym, ◌∙◌, arith, rules}
 use lib.Bits.{and_le_r}
 use lib.Count.{count_trailing_zeros}
-use Rattle.format.specs.Slots.{word_from, after}
 use Rattle.format.proofs.SlotLaws.{all_none}
 use Rattle.slots.specs.Source.{slot_of}
 use Rattle.slots.proofs.Reading.{slot-in}

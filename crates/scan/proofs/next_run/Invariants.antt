@@ -1,13 +1,8 @@
 -- What the loops of `next_run` keep, and their measures. Assumes nothing.
-use Rattle.std.proofs.Common.{◌≡◌, ◌+◌, ◌-◌, ◌*◌, ◌<◌, ◌≤◌, sym, ◌∙◌, ⊎_elim, arith, rules}
-use lib.Bits.{and_le_r}
-use lib.Count.{count_trailing_zeros}
+use Rattle.std.proofs.Common.{◌≡◌, ◌+◌, ◌-◌, ◌*◌, ◌<◌}
 use Rattle.format.specs.Slots.{word_from, after}
-use Rattle.format.proofs.SlotLaws.{all_none}
 use Rattle.slots.specs.Source.{slot_of}
-use Rattle.slots.proofs.Reading.{slot-in}
-use Rattle.scan.proofs.Scan.{Scanned, Hit, Ended, starts, hit, opens, grows, passed, jumps, fresh, ends, ended-run}
-use Rattle.scan.proofs.Asked.{run-first, end-first}
+use Rattle.scan.proofs.Scan.{Scanned}
 use Rattle.scan.proofs.next_run.Given as goal
 
 abbrev pub invariant-loop-x : goal.invariant-loop-x

@@ -1,8 +1,6 @@
 -- `scan::ones_end` meets its contract: each word passed is of ones. Assumes nothing.
-use Rattle.std.proofs.Common.{◌-◌, ◌*◌, arith, rules}
+use Rattle.std.proofs.Common.{◌-◌, arith}
 use Rattle.format.proofs.SlotLaws.{all_none}
-use Rattle.slots.specs.Source.{slot_of}
-use Rattle.scan.specs.Asked.{Ones}
 use Rattle.scan.proofs.Scan.{ones-on}
 use Rattle.scan.proofs.ones_end.Goals as goal
 

@@ -1,9 +1,7 @@
 -- What the loops of `ones_end` keep, and their measures. Assumes nothing.
-use Rattle.std.proofs.Common.{◌-◌, ◌*◌, arith, rules}
-use Rattle.format.proofs.SlotLaws.{all_none}
+use Rattle.std.proofs.Common.{◌-◌, ◌*◌}
 use Rattle.slots.specs.Source.{slot_of}
 use Rattle.scan.specs.Asked.{Ones}
-use Rattle.scan.proofs.Scan.{ones-on}
 use Rattle.scan.proofs.ones_end.Given as goal
 
 abbrev pub invariant-loop-w : goal.invariant-loop-w

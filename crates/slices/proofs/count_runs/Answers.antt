@@ -1,11 +1,10 @@
 -- `slices::count_runs` meets its contract. The invariant: the runs counted, and those from `at` on, are all. Assumes nothing.
-use Prim.Native.Nat.{◌+◌, ◌≤◌, ◌-◌}
-use mathlib.Core.Path.{◌≡◌, ap}
+use Prim.Native.Nat.{◌-◌}
+use mathlib.Core.Path.{ap}
 use native.Mathlib.Nat.{zero-add, sub-zero}
 use native.Mathlib.Omega.{arith}
-use borrow.Author.Rules.{rules}
 use lib.ListN.{length}
-use Rattle.format.specs.Slots.{runs_from, FirstRun}
+use Rattle.format.specs.Slots.{FirstRun}
 use Rattle.format.proofs.SlotLaws.{runs-next, runs_none}
 use Rattle.slots.specs.Source.{slot_of}
 use Rattle.slices.proofs.Reading.{step_run, step-at, step_end}

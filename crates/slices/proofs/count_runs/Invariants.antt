@@ -1,14 +1,9 @@
 -- What the loops of `count_runs` keep, and their measures. Assumes nothing.
 use Prim.Native.Nat.{◌+◌, ◌≤◌, ◌-◌}
-use mathlib.Core.Path.{◌≡◌, ap}
-use native.Mathlib.Nat.{zero-add, sub-zero}
-use native.Mathlib.Omega.{arith}
-use borrow.Author.Rules.{rules}
+use mathlib.Core.Path.{◌≡◌}
 use lib.ListN.{length}
-use Rattle.format.specs.Slots.{runs_from, FirstRun}
-use Rattle.format.proofs.SlotLaws.{runs-next, runs_none}
+use Rattle.format.specs.Slots.{runs_from}
 use Rattle.slots.specs.Source.{slot_of}
-use Rattle.slices.proofs.Reading.{step_run, step-at, step_end}
 use Rattle.slices.proofs.count_runs.Given as goal
 
 abbrev pub invariant-loop-n : goal.invariant-loop-n

@@ -2,7 +2,6 @@
 use Prim.Native.Nat.{ℕ}
 use mathlib.Core.List.{List}
 use mathlib.Core.Path.{◌≡◌, sym, ap, ◌∙◌}
-use borrow.Author.Rules.{rules}
 use Rattle.slots.specs.declared.Bits.{Bits}
 use Rattle.scan.specs.declared.Run.{Run}
 use Rattle.scan.specs.declared.Run.TheVariants.{Span, End}

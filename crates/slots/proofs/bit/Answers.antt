@@ -1,5 +1,4 @@
 -- `slots::bit` meets its contract: the code is the definition. Assumes nothing.
-use borrow.Author.Rules.{rules}
 use Rattle.format.specs.Bytes.{bit_in}
 use Rattle.slots.proofs.bit.Goals as goal
 

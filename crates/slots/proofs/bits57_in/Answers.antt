@@ -2,7 +2,6 @@
 use Prim.Native.Nat.{◌*◌, ◌/◌, ◌%◌}
 use mathlib.Core.Path.{◌∙◌}
 use native.Mathlib.Omega.{arith}
-use borrow.Author.Rules.{rules}
 use Rattle.format.proofs.WordLaws.{from_le}
 use Rattle.slots.proofs.Reading.{word-rest}
 use Rattle.slots.proofs.bits57_in.Goals as goal

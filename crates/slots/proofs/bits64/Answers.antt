@@ -1,6 +1,5 @@
 -- `slots::bits64` meets its contract, by the law of bits that start within a byte. Assumes nothing.
 use native.Mathlib.Omega.{arith}
-use borrow.Author.Rules.{rules}
 use Rattle.format.proofs.WordLaws.{bits_at}
 use Rattle.slots.proofs.bits64.Goals as goal
 

@@ -1,7 +1,6 @@
 -- `slots::bits64_in` meets its contract, by the law of bits that start within a byte. Assumes nothing.
 use mathlib.Core.Path.{◌∙◌}
 use native.Mathlib.Omega.{arith}
-use borrow.Author.Rules.{rules}
 use Rattle.format.proofs.WordLaws.{bits_at, from_le}
 use Rattle.slots.proofs.bits64_in.Goals as goal
 

@@ -1,5 +1,4 @@
 -- `slots::byte` meets its contract: past the end `get_or` gives 0. Assumes nothing.
-use borrow.Author.Rules.{rules}
 use lib.ListN.{get_or-eq_default}
 use mathlib.Core.Path.{sym}
 use Rattle.slots.proofs.byte.Goals as goal

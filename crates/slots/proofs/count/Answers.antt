@@ -1,13 +1,11 @@
 -- `slots::count` meets its contract. The invariant: n counts the picks of the words passed. Assumes nothing.
 use Prim.Native.Nat.{◌+◌, ◌*◌, ◌≤◌, ◌-◌}
-use mathlib.Core.Logic.{⊎_elim}
 use mathlib.Core.Path.{◌≡◌, refl, ◌∙◌}
 use native.Mathlib.Omega.{arith}
-use borrow.Author.Rules.{rules}
 use lib.Count.{ones}
-use Rattle.slots.specs.Source.{slot_of, word_at}
+use Rattle.slots.specs.Source.{word_at}
 use Rattle.slots.proofs.Reading.{slots-picks}
-use Rattle.slots.proofs.Counting.{Counted, counted, counted-more, most}
+use Rattle.slots.proofs.Counting.{counted, counted-more, most}
 use Rattle.slots.proofs.count.Goals as goal
 use Rattle.slots.proofs.count.Goals.{Joined-w-len}
 use mathlib.Core.Logic.{inl, inr}

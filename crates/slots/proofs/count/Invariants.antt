@@ -1,13 +1,7 @@
 -- What the loops of `count` keep, and their measures. Assumes nothing.
 use Prim.Native.Nat.{◌+◌, ◌*◌, ◌≤◌, ◌-◌}
-use mathlib.Core.Logic.{⊎_elim}
-use mathlib.Core.Path.{◌≡◌, refl, ◌∙◌}
-use native.Mathlib.Omega.{arith}
-use borrow.Author.Rules.{rules}
-use lib.Count.{ones}
-use Rattle.slots.specs.Source.{slot_of, word_at}
-use Rattle.slots.proofs.Reading.{slots-picks}
-use Rattle.slots.proofs.Counting.{Counted, counted, counted-more, most}
+use Rattle.slots.specs.Source.{slot_of}
+use Rattle.slots.proofs.Counting.{Counted}
 use Rattle.slots.proofs.count.Given as goal
 
 abbrev pub invariant-loop-w : goal.invariant-loop-w

@@ -2,11 +2,10 @@
 use Prim.Native.Nat.{◌-◌, ◌*◌, ◌≤◌}
 use mathlib.Core.Path.{◌≡◌, refl}
 use native.Mathlib.Omega.{arith}
-use borrow.Author.Rules.{rules}
 use lib.Count.{ones}
 use Rattle.format.specs.Bytes.{bit_at}
 use Rattle.format.specs.Slots.{word_from}
-use Rattle.slots.proofs.Counting.{Counted, counted_start, counted-more, counted-end, bytes_word, most}
+use Rattle.slots.proofs.Counting.{counted_start, counted-more, counted-end, bytes_word, most}
 use Rattle.slots.proofs.count_bits.Goals as goal
 use Rattle.slots.proofs.count_bits.Goals.{After-get64}
 

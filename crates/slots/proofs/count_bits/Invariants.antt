@@ -1,12 +1,7 @@
 -- What the loops of `count_bits` keep, and their measures. Assumes nothing.
 use Prim.Native.Nat.{◌-◌, ◌*◌, ◌≤◌}
-use mathlib.Core.Path.{◌≡◌, refl}
-use native.Mathlib.Omega.{arith}
-use borrow.Author.Rules.{rules}
-use lib.Count.{ones}
 use Rattle.format.specs.Bytes.{bit_at}
-use Rattle.format.specs.Slots.{word_from}
-use Rattle.slots.proofs.Counting.{Counted, counted_start, counted-more, counted-end, bytes_word, most}
+use Rattle.slots.proofs.Counting.{Counted}
 use Rattle.slots.proofs.count_bits.Given as goal
 
 abbrev pub invariant-loop-w : goal.invariant-loop-w

@@ -1,15 +1,11 @@
 -- `slots::count_both` meets its contract: before word w, the bits set in both places are counted of the words before it. Assumes nothing.
-use Prim.Native.Nat.{ℕ, ◌-◌, ◌*◌, ◌≤◌}
-use mathlib.Core.Bool.{Bool, ◌&&◌}
-use mathlib.Core.List.{List}
+use Prim.Native.Nat.{◌-◌, ◌*◌, ◌≤◌}
 use mathlib.Core.Path.{◌≡◌, refl}
 use native.Mathlib.Omega.{arith}
-use borrow.Author.Rules.{rules}
 use lib.Bits.{bit_and}
 use lib.Count.{ones}
-use Rattle.format.specs.Bytes.{bit_at}
 use Rattle.format.specs.Slots.{word_from}
-use Rattle.slots.proofs.Counting.{Counted, counted_start, counted-more, counted-end, both_word, most}
+use Rattle.slots.proofs.Counting.{counted_start, counted-more, counted-end, both_word, most}
 use Rattle.slots.proofs.count_both.Goals as goal
 use Rattle.slots.proofs.count_both.Goals.{After-get64-in-loop-w}
 use Rattle.slots.proofs.count_both.Invariants.{both}

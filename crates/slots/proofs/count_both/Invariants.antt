@@ -2,14 +2,8 @@
 use Prim.Native.Nat.{ℕ, ◌-◌, ◌*◌, ◌≤◌}
 use mathlib.Core.Bool.{Bool, ◌&&◌}
 use mathlib.Core.List.{List}
-use mathlib.Core.Path.{◌≡◌, refl}
-use native.Mathlib.Omega.{arith}
-use borrow.Author.Rules.{rules}
-use lib.Bits.{bit_and}
-use lib.Count.{ones}
 use Rattle.format.specs.Bytes.{bit_at}
-use Rattle.format.specs.Slots.{word_from}
-use Rattle.slots.proofs.Counting.{Counted, counted_start, counted-more, counted-end, both_word, most}
+use Rattle.slots.proofs.Counting.{Counted}
 use Rattle.slots.proofs.count_both.Given as goal
 
 -- the bit of slot j is set in both places

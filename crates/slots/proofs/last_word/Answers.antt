@@ -2,7 +2,6 @@
 use Prim.Native.Nat.{◌*◌, ◌-◌}
 use mathlib.Core.Path.{◌∙◌}
 use native.Mathlib.Omega.{arith}
-use borrow.Author.Rules.{rules}
 use lib.Pow.{pow_pos}
 use Rattle.format.proofs.WordLaws.{one_shl}
 use Rattle.slots.proofs.Reading.{word-full, word_cut}

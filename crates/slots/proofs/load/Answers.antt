@@ -3,10 +3,8 @@ use Prim.Native.Nat.{◌+◌, ◌*◌, ◌^◌, ◌≤◌, ◌<◌, ◌-◌}
 use mathlib.Core.Path.{◌≡◌, refl}
 use native.Mathlib.Nat.{add-zero, lt_of_lt_of_le}
 use native.Mathlib.Omega.{arith}
-use borrow.Author.Rules.{rules}
 use lib.ListN.{get_or}
 use lib.Pow.{pow_mono}
-use Rattle.format.specs.Bytes.{bit_in}
 use Rattle.format.specs.Words.{word_of}
 use Rattle.format.specs.Slots.{slots_from, word_from}
 use Rattle.format.proofs.WordLaws.{from-lt, byte-below}

@@ -1,15 +1,8 @@
 -- What the loops of `load` keep, and their measures. Assumes nothing.
-use Prim.Native.Nat.{◌+◌, ◌*◌, ◌^◌, ◌≤◌, ◌<◌, ◌-◌}
-use mathlib.Core.Path.{◌≡◌, refl}
-use native.Mathlib.Nat.{add-zero, lt_of_lt_of_le}
-use native.Mathlib.Omega.{arith}
-use borrow.Author.Rules.{rules}
-use lib.ListN.{get_or}
-use lib.Pow.{pow_mono}
+use Prim.Native.Nat.{◌+◌, ◌*◌, ◌≤◌, ◌<◌, ◌-◌}
+use mathlib.Core.Path.{◌≡◌}
 use Rattle.format.specs.Bytes.{bit_in}
-use Rattle.format.specs.Words.{word_of}
-use Rattle.format.specs.Slots.{slots_from, word_from}
-use Rattle.format.proofs.WordLaws.{from-lt, byte-below}
+use Rattle.format.specs.Slots.{word_from}
 use Rattle.slots.proofs.load.Given as goal
 
 abbrev pub invariant-loop-t : goal.invariant-loop-t

@@ -1,7 +1,6 @@
 -- `slots::null_count` meets its contract: the rows that are marked, taken from all. Assumes nothing.
 use mathlib.Core.Bool.{false}
 use mathlib.Core.Path.{refl}
-use borrow.Author.Rules.{rules}
 use Rattle.format.proofs.SlotLaws.{count-le}
 use Rattle.slots.specs.declared.Bits.{Bits}
 use Rattle.slots.proofs.Counting.{null-rows}

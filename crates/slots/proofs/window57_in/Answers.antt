@@ -1,6 +1,5 @@
 -- `slots::window57_in` meets its contract: the first n of what one word has. Assumes nothing.
 use native.Mathlib.Omega.{arith}
-use borrow.Author.Rules.{rules}
 use lib.Pow.{pow_pos}
 use Rattle.format.proofs.WordLaws.{one_shl}
 use Rattle.slots.proofs.Reading.{first-slots}

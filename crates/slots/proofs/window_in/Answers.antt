@@ -1,6 +1,5 @@
 -- `slots::window_in` meets its contract: the first n of 64 slots. Assumes nothing.
 use native.Mathlib.Omega.{arith}
-use borrow.Author.Rules.{rules}
 use lib.Pow.{pow_pos}
 use Rattle.format.proofs.WordLaws.{one_shl}
 use Rattle.slots.proofs.Reading.{first-slots}

@@ -2,7 +2,6 @@
 use Prim.Native.Nat.{◌+◌, ◌*◌, ◌/◌, ◌%◌}
 use mathlib.Core.Path.{◌≡◌}
 use native.Mathlib.Omega.{arith}
-use borrow.Author.Rules.{rules}
 use Rattle.format.proofs.WordLaws.{from-clear}
 use Rattle.slots.specs.Source.{slot_of}
 use Rattle.slots.proofs.word_after.Goals as goal

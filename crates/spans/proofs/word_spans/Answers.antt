@@ -1,11 +1,10 @@
 -- `spans::word_spans` meets its contract. What `n` lacks are the rows at the bits left in `rest`; a turn takes the lowest run. Assumes nothing.
 use Prim.Native.Nat.{◌+◌}
-use mathlib.Core.Path.{◌≡◌}
 use native.Mathlib.Omega.{arith}
 use borrow.Author.Rules.{rules}
 use Rattle.format.specs.Rows.{set_rows}
 use Rattle.format.proofs.RowLaws.{set-none}
-use Rattle.spans.specs.Spans.{offset_from, spans, Rising}
+use Rattle.spans.specs.Spans.{offset_from}
 use Rattle.spans.proofs.Spanned.{spans-none, run_small, run_lies, start-lies, rising-rest, read-rises, read-spans}
 use Rattle.spans.proofs.word_spans.Goals as goal
 

@@ -1,12 +1,8 @@
 -- What the loops of `word_spans` keep, and their measures. Assumes nothing.
 use Prim.Native.Nat.{◌+◌}
 use mathlib.Core.Path.{◌≡◌}
-use native.Mathlib.Omega.{arith}
-use borrow.Author.Rules.{rules}
 use Rattle.format.specs.Rows.{set_rows}
-use Rattle.format.proofs.RowLaws.{set-none}
 use Rattle.spans.specs.Spans.{offset_from, spans, Rising}
-use Rattle.spans.proofs.Spanned.{spans-none, run_small, run_lies, start-lies, rising-rest, read-rises, read-spans}
 use Rattle.spans.proofs.word_spans.Given as goal
 
 abbrev pub invariant-loop-rest : goal.invariant-loop-rest

@@ -1,5 +1,5 @@
 -- `stored_list::list_entries` meets its contract: a run has two entries. Assumes nothing.
-use Rattle.std.proofs.Common.{sym, arith, rules}
+use Rattle.std.proofs.Common.{sym, arith}
 use Rattle.slots.specs.Source.{slot_of}
 use Rattle.stored_list.proofs.Entries.{length-edges, runs-le}
 use Rattle.stored_list.proofs.list_entries.Goals as goal

@@ -1,9 +1,9 @@
 -- `stored_list::put_word` meets its contract. What is left to store are the rows of the set bits left. Assumes nothing.
-use Rattle.std.proofs.Common.{◌≡◌, ◌+◌, ◌-◌, ◌^◌, ◌<◌, ◌≤◌, [], ◌∷◌, length, refl, arith, rules}
+use Rattle.std.proofs.Common.{◌≡◌, ◌+◌, ◌-◌, ◌^◌, ◌<◌, ◌≤◌, [], ◌∷◌, length, refl, arith}
 use lib.Bits.{bit_and, and_le_r}
 use lib.Count.{count_trailing_zeros}
-use Rattle.format.specs.Rows.{set_rows, Below}
-use Rattle.format.proofs.Put.{Left, whole, stored, room, done, kept}
+use Rattle.format.specs.Rows.{set_rows}
+use Rattle.format.proofs.Put.{whole, stored, room, done, kept}
 use Rattle.format.proofs.RowLaws.{set-none, set_more, below-first, below-others}
 use Rattle.stored_list.proofs.put_word.Goals as goal
 use Rattle.stored_list.proofs.put_word.Goals.{After-wrapping_sub_u64-x, In-loop-x}

@@ -1,10 +1,7 @@
 -- What the loops of `put_word` keep, and their measures. Assumes nothing.
-use Rattle.std.proofs.Common.{◌≡◌, ◌+◌, ◌-◌, ◌^◌, ◌<◌, ◌≤◌, [], ◌∷◌, length, refl, arith, rules}
-use lib.Bits.{bit_and, and_le_r}
-use lib.Count.{count_trailing_zeros}
+use Rattle.std.proofs.Common.{◌+◌, ◌-◌, ◌^◌, ◌<◌}
 use Rattle.format.specs.Rows.{set_rows, Below}
-use Rattle.format.proofs.Put.{Left, whole, stored, room, done, kept}
-use Rattle.format.proofs.RowLaws.{set-none, set_more, below-first, below-others}
+use Rattle.format.proofs.Put.{Left, kept}
 use Rattle.stored_list.proofs.put_word.Given as goal
 
 abbrev pub invariant-loop-x : goal.invariant-loop-x

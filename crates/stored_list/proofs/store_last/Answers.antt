@@ -1,5 +1,5 @@
 -- `stored_list::store_last` meets its contract: one word, or two. Assumes nothing.
-use Rattle.std.proofs.Common.{◌≡◌, ◌+◌, ◌*◌, ◌++◌, refl, ap, ◌∙◌, arith, rules}
+use Rattle.std.proofs.Common.{◌≡◌, ◌+◌, ◌*◌, ◌++◌, refl, ap, ◌∙◌, arith}
 use Rattle.format.specs.Rows.{set_rows}
 use Rattle.format.specs.Slots.{word_from}
 use Rattle.format.proofs.Put.{Left, whole, less, room, done}

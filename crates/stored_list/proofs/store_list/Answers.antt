@@ -1,5 +1,5 @@
 -- `stored_list::store_list` meets its contract: a route's entries by its own writer; none and all store no entry. Assumes nothing.
-use Rattle.std.proofs.Common.{refl, rules}
+use Rattle.std.proofs.Common.{refl}
 use Rattle.format.proofs.Put.{none}
 use Rattle.stored_list.proofs.store_list.Goals as goal
 

@@ -1,8 +1,7 @@
 -- `stored_list::store_rows` meets its contract. What is left to store are the picks from word w on. Assumes nothing.
-use Rattle.std.proofs.Common.{◌≡◌, ◌+◌, ◌-◌, ◌*◌, ◌≤◌, [], ◌++◌, sym, refl, ◌∙◌, append-nil, arith, rules}
+use Rattle.std.proofs.Common.{◌≡◌, ◌+◌, ◌-◌, ◌*◌, [], ◌++◌, sym, refl, ◌∙◌, append-nil, arith}
 use Rattle.format.specs.Rows.{set_rows}
-use Rattle.format.specs.Slots.{picks_from}
-use Rattle.format.proofs.Put.{same_size, Left, whole, less, room, done, kept}
+use Rattle.format.proofs.Put.{same_size, whole, less, room, done, kept}
 use Rattle.slots.specs.Source.{slot_of}
 use Rattle.slots.proofs.Reading.{slot-past}
 use Rattle.predicate.specs.Selection.{picks_on}

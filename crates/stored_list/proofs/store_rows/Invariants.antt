@@ -1,12 +1,9 @@
 -- What the loops of `store_rows` keep, and their measures. Assumes nothing.
-use Rattle.std.proofs.Common.{◌≡◌, ◌+◌, ◌-◌, ◌*◌, ◌≤◌, [], ◌++◌, sym, refl, ◌∙◌, append-nil, arith, rules}
-use Rattle.format.specs.Rows.{set_rows}
+use Rattle.std.proofs.Common.{◌+◌, ◌-◌, ◌*◌, ◌≤◌}
 use Rattle.format.specs.Slots.{picks_from}
-use Rattle.format.proofs.Put.{same_size, Left, whole, less, room, done, kept}
+use Rattle.format.proofs.Put.{Left, kept}
 use Rattle.slots.specs.Source.{slot_of}
-use Rattle.slots.proofs.Reading.{slot-past}
 use Rattle.predicate.specs.Selection.{picks_on}
-use Rattle.predicate.proofs.Picks.{picks_start, picks-whole, word_below}
 use Rattle.stored_list.proofs.store_rows.Given as goal
 
 abbrev pub invariant-loop-w : goal.invariant-loop-w

@@ -1,7 +1,7 @@
 -- `stored_list::store_runs` meets its contract. What is left to store are the starts and ends of the runs from `place` on. Assumes nothing.
-use Rattle.std.proofs.Common.{◌≡◌, ◌+◌, ◌-◌, ◌≤◌, [], ◌∷◌, length, refl, arith, length-set, rules}
-use Rattle.format.specs.Slots.{runs_from, starts_and_ends, FirstRun}
-use Rattle.format.proofs.Put.{Left, whole, stored, room, done, kept}
+use Rattle.std.proofs.Common.{◌≡◌, ◌+◌, ◌-◌, ◌≤◌, [], ◌∷◌, length, refl, arith, length-set}
+use Rattle.format.specs.Slots.{FirstRun}
+use Rattle.format.proofs.Put.{whole, stored, room, done, kept}
 use Rattle.slots.specs.Source.{slot_of}
 use Rattle.slices.proofs.Reading.{step_run, step-at, step_end}
 use Rattle.predicate.specs.Selection.{edges_on}

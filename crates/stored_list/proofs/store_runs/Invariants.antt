@@ -1,11 +1,9 @@
 -- What the loops of `store_runs` keep, and their measures. Assumes nothing.
-use Rattle.std.proofs.Common.{◌≡◌, ◌+◌, ◌-◌, ◌≤◌, [], ◌∷◌, length, refl, arith, length-set, rules}
-use Rattle.format.specs.Slots.{runs_from, starts_and_ends, FirstRun}
-use Rattle.format.proofs.Put.{Left, whole, stored, room, done, kept}
+use Rattle.std.proofs.Common.{◌+◌, ◌-◌, ◌≤◌}
+use Rattle.format.specs.Slots.{runs_from, starts_and_ends}
+use Rattle.format.proofs.Put.{Left, kept}
 use Rattle.slots.specs.Source.{slot_of}
-use Rattle.slices.proofs.Reading.{step_run, step-at, step_end}
 use Rattle.predicate.specs.Selection.{edges_on}
-use Rattle.predicate.proofs.Picks.{edges-start, edges-run, edges-end}
 use Rattle.stored_list.proofs.store_runs.Given as goal
 
 abbrev pub invariant-loop-a : goal.invariant-loop-a

@@ -1,14 +1,8 @@
 -- `stretch_marks::mark_stretches` meets its contract. The rows from r on are left to mark. Assumes nothing.
 use native.Mathlib.Omega.{arith}
 use borrow.Author.Rules.{rules}
-use mathlib.Core.Path.{◌≡◌}
-use Prim.Native.Nat.{◌≤◌, ◌-◌}
-use Rattle.format.specs.Node.{rows}
-use Rattle.format.specs.Slots.{up_to, after}
-use Rattle.nesting.specs.Rows.{keeps, picks_of}
+use Prim.Native.Nat.{◌-◌}
 use Rattle.nesting.proofs.Sieve.{node-few, len_is, len-fits}
-use Rattle.marks.proofs.Marking.{Marking}
-use Rattle.stretches.specs.Stretches.{Seen}
 use Rattle.stretches.proofs.Minding.{seen_none}
 use Rattle.stretches.proofs.Telling.{closer}
 use Rattle.stretch_marks.proofs.Stretching.{stretch-start, stretch-kept, stretch-dropped, stretch-done}

@@ -1,13 +1,8 @@
 -- What the loops of `filter_offsets32` keep, and their measures. Assumes nothing.
 use Prim.Native.Nat.{◌-◌}
-use mathlib.Core.Path.{◌∙◌}
-use native.Mathlib.Omega.{arith}
-use borrow.Author.Rules.{rules}
-use Rattle.format.proofs.Put.{same_size}
 use Rattle.predicate.specs.Selection.{kept_by}
-use Rattle.predicate.proofs.Steps.{falls}
 use Rattle.texts.specs.Texts.{offset}
-use Rattle.text_columns.proofs.TextWalk.{Summed, sum-none, sum_more, sum_done, sum_same, zero-fits, ends-fit, offsets-done, run-offsets, word-offsets, list-offsets}
+use Rattle.text_columns.proofs.TextWalk.{Summed}
 use Rattle.text_columns.proofs.filter_offsets32.Given as goal
 
 abbrev pub invariant-loop-a : goal.invariant-loop-a

@@ -1,10 +1,7 @@
 -- `text_columns::filter_texts` meets its contract. What is left to write are the own bytes of the rows from the cursor's place on; each arm writes a block's. Assumes nothing.
 use Prim.Native.Nat.{◌-◌}
-use borrow.Author.Rules.{rules}
-use Rattle.predicate.specs.Selection.{kept_by}
 use Rattle.predicate.proofs.Steps.{falls}
-use Rattle.texts.specs.Texts.{start_in, texts_of}
-use Rattle.columns.proofs.Walk.{Walked, walk_none, walk_more, walk-done, walk_same}
+use Rattle.columns.proofs.Walk.{walk_none, walk_more, walk-done, walk_same}
 use Rattle.text_columns.proofs.TextWalk.{texts-cut, run-texts, word-texts, list-texts}
 use Rattle.text_columns.proofs.filter_texts.Goals as goal
 

@@ -1,11 +1,8 @@
 -- What the loops of `filter_texts` keep, and their measures. Assumes nothing.
 use Prim.Native.Nat.{◌-◌}
-use borrow.Author.Rules.{rules}
 use Rattle.predicate.specs.Selection.{kept_by}
-use Rattle.predicate.proofs.Steps.{falls}
 use Rattle.texts.specs.Texts.{start_in, texts_of}
-use Rattle.columns.proofs.Walk.{Walked, walk_none, walk_more, walk-done, walk_same}
-use Rattle.text_columns.proofs.TextWalk.{texts-cut, run-texts, word-texts, list-texts}
+use Rattle.columns.proofs.Walk.{Walked}
 use Rattle.text_columns.proofs.filter_texts.Given as goal
 
 abbrev pub invariant-loop-a : goal.invariant-loop-a

@@ -1,5 +1,5 @@
 -- `texts::offset_at` meets its contract: a width that is not 4 is 8. Assumes nothing.
-use Rattle.std.proofs.Common.{◌≡◌, ℕ, ◌+◌, ◌*◌, ◌≤◌, ◌⊎◌, length, ⊎_elim, arith, rules}
+use Rattle.std.proofs.Common.{◌≡◌, ◌+◌, ◌*◌, ◌≤◌, ◌⊎◌, length, ⊎_elim, arith}
 use Rattle.texts.specs.Texts.{offset}
 use Rattle.texts.proofs.offset_at.Goals as goal
 use Rattle.texts.proofs.offset_at.Goals.{Else-w-eq4, Then-w-eq4}

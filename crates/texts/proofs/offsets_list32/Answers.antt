@@ -3,10 +3,8 @@ use Rattle.std.proofs.Common.{◌≡◌, ◌+◌, ◌-◌, ◌*◌, ◌^◌, ◌
 use Rattle.format.specs.Bytes.{bytes_at}
 use Rattle.format.proofs.Numbers.{bytes-none}
 use Rattle.format.proofs.RowLaws.{list-more}
-use Rattle.append.specs.Cells.{Among}
-use Rattle.texts.specs.Texts.{offset, Offsets}
 use Rattle.append.proofs.CellLaws.{among-others}
-use Rattle.texts.proofs.TextLaws.{offset-fits, offset-rises, Ending, begins, end_fits, end-room, turns, ended, same}
+use Rattle.texts.proofs.TextLaws.{offset-fits, offset-rises, begins, end_fits, end-room, turns, ended, same}
 use Rattle.texts.proofs.offsets_list32.Goals as goal
 use Rattle.texts.proofs.offsets_list32.Goals.{After-size32-end, In-loop-k}
 

@@ -1,12 +1,9 @@
 -- What the loops of `offsets_list32` keep, and their measures. Assumes nothing.
-use Rattle.std.proofs.Common.{◌≡◌, ◌+◌, ◌-◌, ◌*◌, ◌^◌, ◌<◌, ◌≤◌, ◌∷◌, length, get_or, refl, ap, arith, rules}
+use Rattle.std.proofs.Common.{◌+◌, ◌-◌, ◌*◌, ◌≤◌}
 use Rattle.format.specs.Bytes.{bytes_at}
-use Rattle.format.proofs.Numbers.{bytes-none}
-use Rattle.format.proofs.RowLaws.{list-more}
 use Rattle.append.specs.Cells.{Among}
 use Rattle.texts.specs.Texts.{offset, Offsets}
-use Rattle.append.proofs.CellLaws.{among-others}
-use Rattle.texts.proofs.TextLaws.{offset-fits, offset-rises, Ending, begins, end_fits, end-room, turns, ended, same}
+use Rattle.texts.proofs.TextLaws.{Ending}
 use Rattle.texts.proofs.offsets_list32.Given as goal
 
 abbrev pub invariant-loop-k : goal.invariant-loop-k

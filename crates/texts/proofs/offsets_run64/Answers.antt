@@ -3,7 +3,7 @@ use Rattle.std.proofs.Common.{◌≡◌, ◌+◌, ◌-◌, ◌≤◌, ◌∷◌,
 use Rattle.format.specs.Slots.{count_up}
 use Rattle.format.proofs.RowLaws.{up_none, up_more}
 use Rattle.texts.specs.Texts.{offset, size}
-use Rattle.texts.proofs.TextLaws.{run-rises, run_more, Ending, begins, end_fits, end-room, turns, ended, same}
+use Rattle.texts.proofs.TextLaws.{run-rises, run_more, begins, end_fits, end-room, turns, ended, same}
 use Rattle.texts.proofs.offsets_run64.Goals as goal
 use Rattle.texts.proofs.offsets_run64.Goals.{After-get64, In-loop-row}
 

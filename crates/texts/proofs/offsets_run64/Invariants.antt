@@ -1,9 +1,8 @@
 -- What the loops of `offsets_run64` keep, and their measures. Assumes nothing.
-use Rattle.std.proofs.Common.{◌≡◌, ◌+◌, ◌-◌, ◌≤◌, ◌∷◌, refl, arith, rules}
+use Rattle.std.proofs.Common.{◌≡◌, ◌+◌, ◌-◌, ◌≤◌}
 use Rattle.format.specs.Slots.{count_up}
-use Rattle.format.proofs.RowLaws.{up_none, up_more}
-use Rattle.texts.specs.Texts.{offset, size}
-use Rattle.texts.proofs.TextLaws.{run-rises, run_more, Ending, begins, end_fits, end-room, turns, ended, same}
+use Rattle.texts.specs.Texts.{offset}
+use Rattle.texts.proofs.TextLaws.{Ending}
 use Rattle.texts.proofs.offsets_run64.Given as goal
 
 abbrev pub invariant-loop-row : goal.invariant-loop-row

@@ -1,14 +1,9 @@
 -- What the loops of `offsets_word32` keep, and their measures. Assumes nothing.
-use Rattle.std.proofs.Common.{◌≡◌, ◌+◌, ◌-◌, ◌*◌, ◌^◌, ◌<◌, ◌≤◌, ◌∷◌, length, refl, ap, le_trans, arith, rules}
-use lib.Bits.{bit_and, and_le_l}
-use lib.Count.{count_trailing_zeros}
+use Rattle.std.proofs.Common.{◌+◌, ◌-◌, ◌*◌, ◌≤◌}
 use Rattle.format.specs.Rows.{set_rows}
-use Rattle.format.proofs.RowLaws.{set_more, set-none}
-use Rattle.format.proofs.WordLaws.{less_one, clear-lt}
 use Rattle.append.specs.Cells.{Among}
 use Rattle.texts.specs.Texts.{offset, Offsets}
-use Rattle.append.proofs.CellLaws.{among-others}
-use Rattle.texts.proofs.TextLaws.{offset-fits, offset-rises, Ending, begins, end_fits, end-room, turns, ended, same}
+use Rattle.texts.proofs.TextLaws.{Ending}
 use Rattle.texts.proofs.offsets_word32.Given as goal
 
 abbrev pub invariant-loop-rest : goal.invariant-loop-rest

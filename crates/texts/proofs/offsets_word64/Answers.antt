@@ -5,10 +5,8 @@ use lib.Count.{count_trailing_zeros}
 use Rattle.format.specs.Rows.{set_rows}
 use Rattle.format.proofs.RowLaws.{set_more, set-none}
 use Rattle.format.proofs.WordLaws.{less_one, clear-lt}
-use Rattle.append.specs.Cells.{Among}
-use Rattle.texts.specs.Texts.{offset, Offsets}
 use Rattle.append.proofs.CellLaws.{among-others}
-use Rattle.texts.proofs.TextLaws.{offset-fits, offset-rises, Ending, begins, end_fits, end-room, turns, ended, same}
+use Rattle.texts.proofs.TextLaws.{offset-fits, offset-rises, begins, end_fits, end-room, turns, ended, same}
 use Rattle.texts.proofs.offsets_word64.Goals as goal
 use Rattle.texts.proofs.offsets_word64.Goals.{After-size64-end, After-wrapping_sub_u64-rest, In-loop-rest}
 

@@ -1,5 +1,5 @@
 -- `texts::size64` meets its contract: the difference of two offsets. Assumes nothing.
-use Rattle.std.proofs.Common.{◌≡◌, suc, ◌-◌, ◌∙◌, ap₂, arith, rules}
+use Rattle.std.proofs.Common.{◌≡◌, suc, ◌-◌, ◌∙◌, ap₂, arith}
 use Rattle.texts.specs.Texts.{offset, size}
 use Rattle.texts.proofs.TextLaws.{offset-next}
 use Rattle.texts.proofs.size64.Goals as goal

@@ -1,11 +1,9 @@
 -- `texts::texts_list` meets its contract. What is left to write are the own bytes of the rows in the list from k on. Assumes nothing.
-use Rattle.std.proofs.Common.{◌≡◌, ◌+◌, ◌-◌, ◌≤◌, ◌∷◌, get_or, refl, arith, rules}
+use Rattle.std.proofs.Common.{◌≡◌, ◌+◌, ◌-◌, ◌∷◌, get_or, refl, arith, rules}
 use Rattle.format.specs.Bytes.{bytes_at}
 use Rattle.format.proofs.Numbers.{bytes-none}
-use Rattle.format.proofs.Put.{Left, whole, done, kept}
+use Rattle.format.proofs.Put.{whole, done, kept}
 use Rattle.format.proofs.RowLaws.{list-more}
-use Rattle.append.specs.Cells.{Among}
-use Rattle.texts.specs.Texts.{start_in, texts_of, Texts}
 use Rattle.append.proofs.CellLaws.{among-others}
 use Rattle.texts.proofs.TextLaws.{texts-none, rows_few, row-texts, row_room, row-less}
 use Rattle.texts.proofs.texts_list.Goals as goal

@@ -1,13 +1,9 @@
 -- What the loops of `texts_list` keep, and their measures. Assumes nothing.
-use Rattle.std.proofs.Common.{◌≡◌, ◌+◌, ◌-◌, ◌≤◌, ◌∷◌, get_or, refl, arith, rules}
+use Rattle.std.proofs.Common.{◌+◌, ◌-◌, ◌≤◌}
 use Rattle.format.specs.Bytes.{bytes_at}
-use Rattle.format.proofs.Numbers.{bytes-none}
-use Rattle.format.proofs.Put.{Left, whole, done, kept}
-use Rattle.format.proofs.RowLaws.{list-more}
+use Rattle.format.proofs.Put.{Left}
 use Rattle.append.specs.Cells.{Among}
 use Rattle.texts.specs.Texts.{start_in, texts_of, Texts}
-use Rattle.append.proofs.CellLaws.{among-others}
-use Rattle.texts.proofs.TextLaws.{texts-none, rows_few, row-texts, row_room, row-less}
 use Rattle.texts.proofs.texts_list.Given as goal
 
 abbrev pub invariant-loop-k : goal.invariant-loop-k

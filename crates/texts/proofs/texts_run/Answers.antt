@@ -1,5 +1,5 @@
 -- `texts::texts_run` meets its contract. The own bytes of consecutive rows are one part of the data. Assumes nothing.
-use Rattle.std.proofs.Common.{◌≡◌, ◌*◌, le_refl, arith, rules}
+use Rattle.std.proofs.Common.{◌≡◌, ◌*◌, le_refl, arith}
 use Rattle.format.proofs.Put.{named}
 use Rattle.texts.specs.Texts.{start_in}
 use Rattle.texts.proofs.TextLaws.{start_is, start-in, offset-in, run-order, run_inside, run-texts, run_length}

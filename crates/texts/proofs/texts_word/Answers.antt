@@ -1,10 +1,8 @@
 -- `texts::texts_word` meets its contract. What is left to write are the own bytes of the rows at the bits left in `rest`; a turn takes the lowest run. Assumes nothing.
 use Rattle.std.proofs.Common.{◌+◌, ◌≤◌, refl, arith, rules}
-use Rattle.format.specs.Rows.{set_rows}
-use Rattle.format.proofs.Put.{Left, whole, done, kept}
+use Rattle.format.proofs.Put.{whole, done, kept}
 use Rattle.format.proofs.RowLaws.{set-none}
-use Rattle.append.specs.Cells.{Among}
-use Rattle.texts.specs.Texts.{start_in, texts_of, Texts}
+use Rattle.texts.specs.Texts.{Texts}
 use Rattle.texts.proofs.TextLaws.{texts-none, among-rest, run_room, run-less, run-texts-fit, rows_few}
 use Rattle.texts.proofs.texts_word.Goals as goal
 use Rattle.texts.proofs.texts_word.Goals.{After-low_run-run}

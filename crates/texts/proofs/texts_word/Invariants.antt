@@ -1,11 +1,9 @@
 -- What the loops of `texts_word` keep, and their measures. Assumes nothing.
-use Rattle.std.proofs.Common.{◌+◌, ◌≤◌, refl, arith, rules}
+use Rattle.std.proofs.Common.{◌+◌}
 use Rattle.format.specs.Rows.{set_rows}
-use Rattle.format.proofs.Put.{Left, whole, done, kept}
-use Rattle.format.proofs.RowLaws.{set-none}
+use Rattle.format.proofs.Put.{Left}
 use Rattle.append.specs.Cells.{Among}
 use Rattle.texts.specs.Texts.{start_in, texts_of, Texts}
-use Rattle.texts.proofs.TextLaws.{texts-none, among-rest, run_room, run-less, run-texts-fit, rows_few}
 use Rattle.texts.proofs.texts_word.Given as goal
 
 abbrev pub invariant-loop-rest : goal.invariant-loop-rest

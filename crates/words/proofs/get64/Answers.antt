@@ -1,6 +1,6 @@
 -- `words::get64` meets its contract. Assumes nothing.
 use Rattle.format.proofs.Numbers.{read}
-use Rattle.std.proofs.Common.{add-zero, arith, rules}
+use Rattle.std.proofs.Common.{add-zero, arith}
 use Rattle.format.specs.Bytes.{le, sum_below}
 use Rattle.words.proofs.get64.Goals as goal
 

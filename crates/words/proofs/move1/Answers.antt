@@ -1,5 +1,5 @@
 -- `words::move1` meets its contract: one store. Assumes nothing.
-use Rattle.std.proofs.Common.{refl, arith, rules}
+use Rattle.std.proofs.Common.{refl, arith}
 use Rattle.format.proofs.Put.{whole, stored, done}
 use Rattle.format.proofs.Numbers.{bytes-none, bytes-more}
 use Rattle.words.proofs.move1.Goals as goal

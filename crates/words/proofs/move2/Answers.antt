@@ -1,6 +1,5 @@
 -- `words::move2` meets its contract. Assumes nothing.
 use Rattle.format.proofs.Put.{named}
-use Rattle.std.proofs.Common.{rules}
 use Rattle.words.proofs.move2.Goals as goal
 
 pub returns : goal.returns

@@ -1,6 +1,5 @@
 -- `words::move8` meets its contract. Assumes nothing.
 use Rattle.format.proofs.Put.{named}
-use Rattle.std.proofs.Common.{rules}
 use Rattle.words.proofs.move8.Goals as goal
 
 pub returns : goal.returns

@@ -1,7 +1,7 @@
 -- `words::put32` meets its contract. Assumes nothing.
 use Rattle.format.specs.Bytes.{to_le, table}
 use Rattle.format.specs.Put.{put}
-use Rattle.std.proofs.Common.{refl, div-one, arith, length-set, rules}
+use Rattle.std.proofs.Common.{refl, div-one, arith, length-set}
 use native.Mathlib.Numerals.{towards_suc}
 use Rattle.words.proofs.put32.Goals as goal
 

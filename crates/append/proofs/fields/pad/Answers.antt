@@ -2,7 +2,6 @@
 use native.Mathlib.Omega.{arith}
 use Rattle.format.proofs.Put.{named}
 use Rattle.append.proofs.CellLaws.{gap, padding-zeros, length-padding}
-use borrow.Author.Rules.{rules}
 use Rattle.append.proofs.fields.pad.Goals as goal
 
 pub put_zeros-requires : goal.put_zeros-requires

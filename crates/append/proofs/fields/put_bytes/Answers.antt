@@ -1,11 +1,10 @@
 -- `append::fields::put_bytes` meets its contract. What is left to write is `left` in the bytes that are left. Assumes nothing.
-use Prim.Native.Nat.{◌+◌, ◌≤◌, ◌-◌}
+use Prim.Native.Nat.{◌-◌}
 use native.Mathlib.Omega.{arith}
 use borrow.Author.Rules.{rules}
-use Rattle.format.specs.Bytes.{to_le}
 use Rattle.format.proofs.Numbers.{to_le-none, to_le-more}
 use Rattle.append.proofs.CellLaws.{to_le-same}
-use Rattle.format.proofs.Put.{Left, whole, stored, done, kept}
+use Rattle.format.proofs.Put.{whole, stored, done, kept}
 use Rattle.append.proofs.fields.put_bytes.Goals as goal
 
 pub loop-i-init : goal.loop-i-init

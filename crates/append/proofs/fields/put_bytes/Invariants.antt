@@ -1,11 +1,7 @@
 -- What the loops of `fields::put_bytes` keep, and their measures. Assumes nothing.
 use Prim.Native.Nat.{◌+◌, ◌≤◌, ◌-◌}
-use native.Mathlib.Omega.{arith}
-use borrow.Author.Rules.{rules}
 use Rattle.format.specs.Bytes.{to_le}
-use Rattle.format.proofs.Numbers.{to_le-none, to_le-more}
-use Rattle.append.proofs.CellLaws.{to_le-same}
-use Rattle.format.proofs.Put.{Left, whole, stored, done, kept}
+use Rattle.format.proofs.Put.{Left}
 use Rattle.append.proofs.fields.put_bytes.Given as goal
 
 abbrev pub invariant-loop-i : goal.invariant-loop-i

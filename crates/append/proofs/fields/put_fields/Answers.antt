@@ -1,14 +1,13 @@
 -- `append::fields::put_fields` meets its contract. What is left to write are the numbers from index i on. Assumes nothing.
-use Prim.Native.Nat.{◌≤◌, ◌-◌}
+use Prim.Native.Nat.{◌-◌}
 use mathlib.Core.Path.{refl, ap, ◌∙◌}
 use native.Mathlib.Omega.{arith}
-use lib.ListN.{length}
 use borrow.Author.Rules.{rules}
-use Rattle.format.specs.Bytes.{to_le, bytes_at}
+use Rattle.format.specs.Bytes.{to_le}
 use Rattle.format.specs.Write.{numbers}
 use Rattle.format.proofs.Measure.{length-to_le}
 use Rattle.format.proofs.Numbers.{bytes-all, bytes-none, numbers-none}
-use Rattle.format.proofs.Put.{Left, whole, less, room, done, kept}
+use Rattle.format.proofs.Put.{whole, less, room, done, kept}
 use Rattle.append.proofs.CellLaws.{numbers_more}
 use Rattle.append.proofs.fields.put_fields.Goals as goal
 

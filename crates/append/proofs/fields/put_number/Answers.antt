@@ -4,7 +4,6 @@ use native.Mathlib.Omega.{arith}
 use Rattle.format.proofs.Put.{named}
 use Rattle.format.proofs.Numbers.{to_le-mod}
 use Rattle.append.proofs.CellLaws.{to_le-same}
-use borrow.Author.Rules.{rules}
 use Rattle.append.proofs.fields.put_number.Goals as goal
 
 pub returns-then-width-eq4 : goal.returns-then-width-eq4

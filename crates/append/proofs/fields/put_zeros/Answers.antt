@@ -1,11 +1,10 @@
 -- `append::fields::put_zeros` meets its contract. What is left to write are as many zeros as places up to the end. Assumes nothing.
-use Rattle.append.specs.Cells.{zeros}
 use Rattle.append.proofs.CellLaws.{zeros-same, zeros-none, zeros-more}
-use Prim.Native.Nat.{◌≤◌, ◌-◌}
+use Prim.Native.Nat.{◌-◌}
 use mathlib.Core.Path.{refl}
 use native.Mathlib.Omega.{arith}
 use borrow.Author.Rules.{rules}
-use Rattle.format.proofs.Put.{Left, whole, stored, done, kept}
+use Rattle.format.proofs.Put.{whole, stored, done, kept}
 use Rattle.append.proofs.fields.put_zeros.Goals as goal
 
 pub loop-i-init : goal.loop-i-init

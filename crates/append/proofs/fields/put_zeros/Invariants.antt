@@ -1,11 +1,7 @@
 -- What the loops of `fields::put_zeros` keep, and their measures. Assumes nothing.
 use Rattle.append.specs.Cells.{zeros}
-use Rattle.append.proofs.CellLaws.{zeros-same, zeros-none, zeros-more}
 use Prim.Native.Nat.{◌≤◌, ◌-◌}
-use mathlib.Core.Path.{refl}
-use native.Mathlib.Omega.{arith}
-use borrow.Author.Rules.{rules}
-use Rattle.format.proofs.Put.{Left, whole, stored, done, kept}
+use Rattle.format.proofs.Put.{Left}
 use Rattle.append.proofs.fields.put_zeros.Given as goal
 
 abbrev pub invariant-loop-i : goal.invariant-loop-i

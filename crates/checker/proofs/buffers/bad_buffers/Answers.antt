@@ -1,5 +1,4 @@
 -- `checker::buffers::bad_buffers` meets its contract: the sizes are the callees'. Assumes nothing.
-use borrow.Author.Rules.{rules}
 use Rattle.format.specs.Bytes.{bytes_for}
 use Rattle.format.specs.Node.{has_no_bitmap, kind, places}
 use Rattle.format.specs.Verdict.{bad_buffers}

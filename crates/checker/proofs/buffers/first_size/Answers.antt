@@ -1,5 +1,4 @@
 -- `checker::buffers::first_size` meets its contract: a table by kind. Assumes nothing.
-use borrow.Author.Rules.{rules}
 use native.Mathlib.Omega.{arith}
 use Rattle.format.specs.Bytes.{bytes_for}
 use Rattle.checker.proofs.Sizes.{product-fits}

@@ -1,5 +1,4 @@
 -- `checker::buffers::second_size` meets its contract: a table by kind. Assumes nothing.
-use borrow.Author.Rules.{rules}
 use native.Mathlib.Omega.{arith}
 use Rattle.checker.proofs.buffers.second_size.Goals as goal
 

@@ -1,10 +1,10 @@
 -- `checker::buffers::wrong_buffers` meets its contract: bad gathers the nodes below i. Assumes nothing.
-use Prim.Native.Nat.{◌-◌, ◌≤◌}
+use Prim.Native.Nat.{◌-◌}
 use borrow.Author.Rules.{rules}
-use mathlib.Core.Path.{◌∙◌, ◌≡◌, ap, refl}
+use mathlib.Core.Path.{◌∙◌, ap, refl}
 use Rattle.content.proofs.Fold.{any-end, any-more, any-start}
 use Rattle.format.specs.Bytes.{any_below}
-use Rattle.format.specs.Verdict.{bad_buffers, wrong_buffers}
+use Rattle.format.specs.Verdict.{wrong_buffers}
 use Rattle.checker.proofs.buffers.wrong_buffers.Goals as goal
 
 pub loop-i-init : goal.loop-i-init

@@ -1,10 +1,8 @@
 -- What the loops of `buffers::wrong_buffers` keep, and their measures. Assumes nothing.
 use Prim.Native.Nat.{◌-◌, ◌≤◌}
-use borrow.Author.Rules.{rules}
-use mathlib.Core.Path.{◌∙◌, ◌≡◌, ap, refl}
-use Rattle.content.proofs.Fold.{any-end, any-more, any-start}
+use mathlib.Core.Path.{◌≡◌}
 use Rattle.format.specs.Bytes.{any_below}
-use Rattle.format.specs.Verdict.{bad_buffers, wrong_buffers}
+use Rattle.format.specs.Verdict.{bad_buffers}
 use Rattle.checker.proofs.buffers.wrong_buffers.Given as goal
 
 abbrev pub invariant-loop-i : goal.invariant-loop-i

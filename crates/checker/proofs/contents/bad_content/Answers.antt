@@ -1,5 +1,4 @@
 -- `checker::contents::bad_content` meets its contract: each arm is its kind. Assumes nothing.
-use borrow.Author.Rules.{rules}
 use mathlib.Core.Path.{◌∙◌, refl}
 use native.Mathlib.Omega.{arith}
 use Rattle.format.specs.Verdict.{bad_content}

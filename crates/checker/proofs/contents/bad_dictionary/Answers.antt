@@ -1,6 +1,5 @@
 -- `checker::contents::bad_dictionary` meets its contract. Assumes nothing.
 use Prim.Native.Nat.{◌*◌, ◌+◌, ◌≤◌}
-use borrow.Author.Rules.{rules}
 use lib.ListN.{length}
 use mathlib.Core.Bool.{true}
 use mathlib.Core.List.{[], ◌∷◌}

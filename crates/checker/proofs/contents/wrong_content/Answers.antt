@@ -1,11 +1,11 @@
 -- `checker::contents::wrong_content` meets its contract: bad gathers the nodes below i. Assumes nothing.
-use Prim.Native.Nat.{◌-◌, ◌≤◌}
+use Prim.Native.Nat.{◌-◌}
 use borrow.Author.Rules.{rules}
-use mathlib.Core.Path.{◌∙◌, ◌≡◌, ap, refl}
+use mathlib.Core.Path.{◌∙◌, ap, refl}
 use Rattle.content.proofs.Fold.{any-end, any-more, any-start}
 use Rattle.format.specs.Bytes.{any_below}
 use Rattle.format.specs.Node.{kind}
-use Rattle.format.specs.Verdict.{bad_content, wrong_content}
+use Rattle.format.specs.Verdict.{wrong_content}
 use Rattle.checker.proofs.contents.wrong_content.Goals as goal
 
 pub loop-i-init : goal.loop-i-init

@@ -1,5 +1,4 @@
 -- `checker::fields::bad_fields` meets its contract: each arm is its kind's row. Assumes nothing.
-use borrow.Author.Rules.{rules}
 use mathlib.Core.Path.{refl}
 use Rattle.checker.proofs.Fits.{four, no_kind, row_is, six, three}
 use Rattle.checker.proofs.fields.bad_fields.Goals as goal

@@ -1,11 +1,11 @@
 -- `checker::fields::wrong_fields` meets its contract: bad gathers the nodes below i. Assumes nothing.
-use Prim.Native.Nat.{◌-◌, ◌≤◌}
+use Prim.Native.Nat.{◌-◌}
 use borrow.Author.Rules.{rules}
-use mathlib.Core.Path.{◌∙◌, ◌≡◌, ap, refl}
+use mathlib.Core.Path.{◌∙◌, ap, refl}
 use Rattle.content.proofs.Fold.{any-end, any-more, any-start}
 use Rattle.format.specs.Bytes.{any_below}
 use Rattle.format.specs.Node.{kind}
-use Rattle.format.specs.Verdict.{bad_fields, layout, wrong_fields}
+use Rattle.format.specs.Verdict.{bad_fields, wrong_fields}
 use Rattle.checker.proofs.fields.wrong_fields.Goals as goal
 
 pub loop-i-init : goal.loop-i-init

@@ -1,11 +1,9 @@
 -- What the loops of `fields::wrong_fields` keep, and their measures. Assumes nothing.
 use Prim.Native.Nat.{◌-◌, ◌≤◌}
-use borrow.Author.Rules.{rules}
-use mathlib.Core.Path.{◌∙◌, ◌≡◌, ap, refl}
-use Rattle.content.proofs.Fold.{any-end, any-more, any-start}
+use mathlib.Core.Path.{◌≡◌}
 use Rattle.format.specs.Bytes.{any_below}
 use Rattle.format.specs.Node.{kind}
-use Rattle.format.specs.Verdict.{bad_fields, layout, wrong_fields}
+use Rattle.format.specs.Verdict.{bad_fields, layout}
 use Rattle.checker.proofs.fields.wrong_fields.Given as goal
 
 abbrev pub invariant-loop-i : goal.invariant-loop-i

@@ -1,7 +1,6 @@
 -- `checker::nulls::null_count` meets its contract. Assumes nothing.
 use mathlib.Core.Path.{◌∙◌}
 use native.Mathlib.Omega.{arith}
-use borrow.Author.Rules.{rules}
 use Rattle.checker.proofs.Counts.{by-bitmap, marks-lie, no-bitmap}
 use Rattle.checker.proofs.nulls.null_count.Goals as goal
 

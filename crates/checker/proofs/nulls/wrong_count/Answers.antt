@@ -1,5 +1,4 @@
 -- `checker::nulls::wrong_count` meets its contract. Assumes nothing.
-use borrow.Author.Rules.{rules}
 use Rattle.checker.proofs.nulls.wrong_count.Goals as goal
 
 pub returns : goal.returns

@@ -1,14 +1,10 @@
 -- What the loops of `nulls::wrong_nulls` keep, and their measures. Assumes nothing.
 use Prim.Native.Nat.{◌-◌, ◌≤◌}
-use borrow.Author.Rules.{rules}
 use lib.Dec.{eqb}
 use mathlib.Core.Bool.{not}
-use mathlib.Core.Path.{◌∙◌, ◌≡◌, ap, refl}
-use Rattle.content.proofs.Fold.{any-end, any-more, any-start}
+use mathlib.Core.Path.{◌≡◌}
 use Rattle.format.specs.Bytes.{any_below}
 use Rattle.format.specs.Node.{last_field, null_count}
-use Rattle.format.specs.Verdict.{wrong_nulls}
-use Rattle.checker.proofs.Counts.{no-counts, with-counts}
 use Rattle.checker.proofs.nulls.wrong_nulls.Given as goal
 
 abbrev pub invariant-loop-i : goal.invariant-loop-i

@@ -1,13 +1,10 @@
 -- `checker::rows::any_other_rows` meets its contract: bad gathers the nodes below i. Assumes nothing.
-use Prim.Native.Nat.{◌-◌, ◌≤◌}
+use Prim.Native.Nat.{◌-◌}
 use borrow.Author.Rules.{rules}
-use lib.Dec.{ltb}
-use mathlib.Core.Bool.{◌&&◌}
-use mathlib.Core.Path.{◌∙◌, ◌≡◌, ap, refl}
+use mathlib.Core.Path.{◌∙◌, ap, refl}
 use native.Mathlib.Omega.{arith}
 use Rattle.content.proofs.Fold.{any-end, any-more, any-start}
 use Rattle.format.specs.Bytes.{any_below}
-use Rattle.format.specs.Verdict.{bad_child_rows}
 use Rattle.checker.proofs.Children.{child-rows-is}
 use Rattle.checker.proofs.rows.any_other_rows.Goals as goal
 

@@ -1,14 +1,10 @@
 -- What the loops of `rows::any_other_rows` keep, and their measures. Assumes nothing.
 use Prim.Native.Nat.{◌-◌, ◌≤◌}
-use borrow.Author.Rules.{rules}
 use lib.Dec.{ltb}
 use mathlib.Core.Bool.{◌&&◌}
-use mathlib.Core.Path.{◌∙◌, ◌≡◌, ap, refl}
-use native.Mathlib.Omega.{arith}
-use Rattle.content.proofs.Fold.{any-end, any-more, any-start}
+use mathlib.Core.Path.{◌≡◌}
 use Rattle.format.specs.Bytes.{any_below}
 use Rattle.format.specs.Verdict.{bad_child_rows}
-use Rattle.checker.proofs.Children.{child-rows-is}
 use Rattle.checker.proofs.rows.any_other_rows.Given as goal
 
 abbrev pub invariant-loop-i : goal.invariant-loop-i

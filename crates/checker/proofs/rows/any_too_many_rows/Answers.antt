@@ -1,8 +1,7 @@
 -- `checker::rows::any_too_many_rows` meets its contract: bad gathers the nodes below i. Assumes nothing.
-use Prim.Native.Nat.{◌-◌, ◌≤◌}
+use Prim.Native.Nat.{◌-◌}
 use borrow.Author.Rules.{rules}
-use lib.Dec.{ltb}
-use mathlib.Core.Path.{◌∙◌, ◌≡◌, ap, refl}
+use mathlib.Core.Path.{◌∙◌, ap, refl}
 use Rattle.content.proofs.Fold.{any-end, any-more, any-start}
 use Rattle.format.specs.Bytes.{any_below}
 use Rattle.format.specs.Node.{places}

@@ -1,9 +1,7 @@
 -- What the loops of `rows::any_too_many_rows` keep, and their measures. Assumes nothing.
 use Prim.Native.Nat.{◌-◌, ◌≤◌}
-use borrow.Author.Rules.{rules}
 use lib.Dec.{ltb}
-use mathlib.Core.Path.{◌∙◌, ◌≡◌, ap, refl}
-use Rattle.content.proofs.Fold.{any-end, any-more, any-start}
+use mathlib.Core.Path.{◌≡◌}
 use Rattle.format.specs.Bytes.{any_below}
 use Rattle.format.specs.Node.{places}
 use Rattle.checker.proofs.rows.any_too_many_rows.Given as goal

@@ -1,5 +1,4 @@
 -- `checker::rows::other_rows` meets its contract: the fields are the nodes' own. Assumes nothing.
-use borrow.Author.Rules.{rules}
 use Rattle.format.specs.Node.{of_kind}
 use Rattle.checker.proofs.rows.other_rows.Goals as goal
 

@@ -1,5 +1,4 @@
 -- `checker::rows::too_many_rows` meets its contract. Assumes nothing.
-use borrow.Author.Rules.{rules}
 use Rattle.format.specs.Node.{places}
 use Rattle.checker.proofs.rows.too_many_rows.Goals as goal
 

@@ -1,5 +1,4 @@
 -- `checker::rows::wrong_rows` meets its contract. Assumes nothing.
-use borrow.Author.Rules.{rules}
 use Rattle.format.specs.Verdict.{wrong_rows}
 use Rattle.checker.proofs.rows.wrong_rows.Goals as goal
 

@@ -1,19 +1,17 @@
 -- `columns::from_mask::pass_runs` meets its contract: the rows up to `place` are written; a turn writes a run's. Assumes nothing.
-use Prim.Native.Nat.{◌-◌, ◌<◌}
+use Prim.Native.Nat.{◌-◌}
 use mathlib.Core.Bool.{true}
 use mathlib.Core.Path.{◌≡◌, refl, sym, ◌∙◌}
 use native.Mathlib.Omega.{arith}
-use borrow.Author.Rules.{rules}
 use borrow.Author.Tests.{not-false}
 use Rattle.format.proofs.Put.{same_size}
 use Rattle.slots.specs.Source.{slot_of, Lies}
 use Rattle.predicate.specs.Selection.{lazy}
 use Rattle.predicate.specs.Blocks.{Ran}
 use Rattle.predicate.proofs.Steps.{lazy-lies, lazy-kept}
-use Rattle.append.specs.Cells.{entries_of}
 use Rattle.append.proofs.CellLaws.{run_fits}
 use Rattle.columns.proofs.EntryWalk.{entries-cut}
-use Rattle.columns.proofs.Passing.{Passing, pass-nothing, pass-none, run_room, run_more, pass-done}
+use Rattle.columns.proofs.Passing.{pass-nothing, pass-none, run_room, run_more, pass-done}
 use Rattle.columns.proofs.from_mask.pass_runs.Goals as goal
 use Rattle.columns.proofs.from_mask.pass_runs.Goals.{Else-not-lazy, Else-run}
 

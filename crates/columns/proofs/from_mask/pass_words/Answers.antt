@@ -3,17 +3,14 @@ use Prim.Native.Nat.{◌-◌, ◌*◌}
 use mathlib.Core.Bool.{true}
 use mathlib.Core.Path.{◌≡◌, refl, sym, ◌∙◌}
 use native.Mathlib.Omega.{arith}
-use borrow.Author.Rules.{rules}
 use borrow.Author.Tests.{not-false}
-use lib.ListN.{length}
 use lib.Seq.{length-take-le}
 use Rattle.format.proofs.Put.{same_size}
-use Rattle.slots.specs.Source.{slot_of, Lies}
+use Rattle.slots.specs.Source.{Lies}
 use Rattle.predicate.specs.Selection.{lazy}
 use Rattle.predicate.proofs.Steps.{lazy-lies, lazy-kept}
-use Rattle.append.specs.Cells.{entries_of}
 use Rattle.columns.proofs.EntryWalk.{entries-cut}
-use Rattle.columns.proofs.Passing.{Passing, pass-nothing, pass-none, pass-room, pass-among, pass-more, pass-done, ahead-rows}
+use Rattle.columns.proofs.Passing.{pass-nothing, pass-none, pass-room, pass-among, pass-more, pass-done, ahead-rows}
 use Rattle.columns.proofs.from_mask.pass_words.Goals as goal
 use Rattle.columns.proofs.from_mask.pass_words.Goals.{Else-not-lazy}
 

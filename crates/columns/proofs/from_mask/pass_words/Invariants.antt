@@ -1,19 +1,10 @@
 -- What the loops of `from_mask::pass_words` keep, and their measures. Assumes nothing.
 use Prim.Native.Nat.{◌-◌, ◌*◌}
-use mathlib.Core.Bool.{true}
-use mathlib.Core.Path.{◌≡◌, refl, sym, ◌∙◌}
-use native.Mathlib.Omega.{arith}
-use borrow.Author.Rules.{rules}
-use borrow.Author.Tests.{not-false}
+use mathlib.Core.Path.{◌≡◌}
 use lib.ListN.{length}
-use lib.Seq.{length-take-le}
-use Rattle.format.proofs.Put.{same_size}
-use Rattle.slots.specs.Source.{slot_of, Lies}
-use Rattle.predicate.specs.Selection.{lazy}
-use Rattle.predicate.proofs.Steps.{lazy-lies, lazy-kept}
+use Rattle.slots.specs.Source.{slot_of}
 use Rattle.append.specs.Cells.{entries_of}
-use Rattle.columns.proofs.EntryWalk.{entries-cut}
-use Rattle.columns.proofs.Passing.{Passing, pass-nothing, pass-none, pass-room, pass-among, pass-more, pass-done, ahead-rows}
+use Rattle.columns.proofs.Passing.{Passing}
 use Rattle.columns.proofs.from_mask.pass_words.Given as goal
 
 abbrev pub invariant-loop-mask : goal.invariant-loop-mask

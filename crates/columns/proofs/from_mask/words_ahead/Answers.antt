@@ -1,13 +1,10 @@
 -- `columns::from_mask::words_ahead` meets its contract: n words stand at the front; a turn adds the next. Assumes nothing.
 use Prim.Native.Nat.{◌+◌, ◌-◌, ◌*◌, ◌≤◌, ◌<◌}
 use mathlib.Core.Bool.{and-eq-true_iff}
-use mathlib.Core.Path.{◌≡◌, refl}
+use mathlib.Core.Path.{refl}
 use native.Mathlib.Omega.{arith}
-use borrow.Author.Rules.{rules}
 use borrow.Author.Tests.{ltb-true, leb-true}
 use lib.ListN.{length, length-set}
-use Rattle.slots.specs.Source.{slot_of}
-use Rattle.columns.specs.Words.{Ahead}
 use Rattle.columns.proofs.Passing.{ahead_none, ahead_more}
 use Rattle.columns.proofs.from_mask.words_ahead.Goals as goal
 use Rattle.columns.proofs.from_mask.words_ahead.Goals.{In-loop-n}

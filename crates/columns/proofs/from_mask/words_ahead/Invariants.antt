@@ -1,14 +1,9 @@
 -- What the loops of `from_mask::words_ahead` keep, and their measures. Assumes nothing.
-use Prim.Native.Nat.{◌+◌, ◌-◌, ◌*◌, ◌≤◌, ◌<◌}
-use mathlib.Core.Bool.{and-eq-true_iff}
-use mathlib.Core.Path.{◌≡◌, refl}
-use native.Mathlib.Omega.{arith}
-use borrow.Author.Rules.{rules}
-use borrow.Author.Tests.{ltb-true, leb-true}
-use lib.ListN.{length, length-set}
+use Prim.Native.Nat.{◌+◌, ◌-◌, ◌*◌}
+use mathlib.Core.Path.{◌≡◌}
+use lib.ListN.{length}
 use Rattle.slots.specs.Source.{slot_of}
 use Rattle.columns.specs.Words.{Ahead}
-use Rattle.columns.proofs.Passing.{ahead_none, ahead_more}
 use Rattle.columns.proofs.from_mask.words_ahead.Given as goal
 
 abbrev pub invariant-loop-n : goal.invariant-loop-n

@@ -2,12 +2,9 @@
 use Prim.Native.Nat.{◌-◌}
 use mathlib.Core.Path.{refl}
 use native.Mathlib.Omega.{arith}
-use borrow.Author.Rules.{rules}
-use Rattle.predicate.specs.Selection.{kept_by}
 use Rattle.predicate.proofs.Steps.{falls}
-use Rattle.append.specs.Cells.{entries_of}
 use Rattle.append.proofs.CellLaws.{words-one}
-use Rattle.columns.proofs.Walk.{Walked, walk_none, walk_more, walk-done, walk_same}
+use Rattle.columns.proofs.Walk.{walk_none, walk_more, walk-done, walk_same}
 use Rattle.columns.proofs.Passing.{walk-fits, walk-on}
 use Rattle.columns.proofs.EntryWalk.{entries-cut, run-needs, word-needs, list-needs}
 use Rattle.columns.proofs.native.filter_native.Goals as goal

@@ -1,9 +1,7 @@
 -- `content::keys::any_from` meets its contract: bad gathers the bytes below i. Assumes nothing.
-use Rattle.std.proofs.Common.{◌≡◌, ◌-◌, ◌≤◌, refl, rules}
+use Rattle.std.proofs.Common.{◌-◌, refl, rules}
 use Rattle.content.proofs.Fold.{any-end, any-more, any-start}
 use Rattle.content.proofs.Tests.{byte-is}
-use Rattle.content.specs.Numbers.{bad_key}
-use Rattle.format.specs.Bytes.{any_below}
 use Rattle.content.proofs.keys.any_from.Goals as goal
 
 pub loop-i-init : goal.loop-i-init

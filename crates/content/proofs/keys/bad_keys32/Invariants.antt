@@ -1,7 +1,5 @@
 -- What the loops of `keys::bad_keys32` keep, and their measures. Assumes nothing.
-use Rattle.std.proofs.Common.{◌≡◌, ◌-◌, ◌≤◌, refl, rules}
-use Rattle.content.proofs.Fold.{any-end, any-more, any-start}
-use Rattle.content.proofs.Tests.{key-is}
+use Rattle.std.proofs.Common.{◌≡◌, ◌-◌, ◌≤◌}
 use Rattle.content.specs.Numbers.{bad_key}
 use Rattle.format.specs.Bytes.{any_below}
 use Rattle.content.proofs.keys.bad_keys32.Given as goal

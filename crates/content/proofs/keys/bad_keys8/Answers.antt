@@ -1,5 +1,5 @@
 -- `content::keys::bad_keys8` meets its contract. Assumes nothing.
-use Rattle.std.proofs.Common.{arith, rules}
+use Rattle.std.proofs.Common.{arith}
 use Rattle.content.proofs.Tests.{no_byte}
 use Rattle.content.proofs.keys.bad_keys8.Goals as goal
 

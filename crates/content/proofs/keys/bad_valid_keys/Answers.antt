@@ -1,10 +1,8 @@
 -- `content::keys::bad_valid_keys` meets its contract: bad gathers the rows below i. Assumes nothing.
-use Rattle.std.proofs.Common.{◌≡◌, ◌-◌, ◌≤◌, sym, refl, ◌∙◌, rules}
+use Rattle.std.proofs.Common.{◌-◌, sym, refl, ◌∙◌, rules}
 use borrow.Author.Tests.{not-true}
 use Rattle.content.proofs.Fold.{any-end, any-more, any-start}
 use Rattle.content.proofs.Tests.{none-valid, number-inside, valid-is}
-use Rattle.content.specs.Numbers.{bad_valid_key}
-use Rattle.format.specs.Bytes.{any_below}
 use Rattle.content.proofs.keys.bad_valid_keys.Goals as goal
 
 pub returns-then-not-bad_keys : goal.returns-then-not-bad_keys

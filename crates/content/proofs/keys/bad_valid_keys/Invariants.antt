@@ -1,8 +1,5 @@
 -- What the loops of `keys::bad_valid_keys` keep, and their measures. Assumes nothing.
-use Rattle.std.proofs.Common.{◌≡◌, ◌-◌, ◌≤◌, sym, refl, ◌∙◌, rules}
-use borrow.Author.Tests.{not-true}
-use Rattle.content.proofs.Fold.{any-end, any-more, any-start}
-use Rattle.content.proofs.Tests.{none-valid, number-inside, valid-is}
+use Rattle.std.proofs.Common.{◌≡◌, ◌-◌, ◌≤◌}
 use Rattle.content.specs.Numbers.{bad_valid_key}
 use Rattle.format.specs.Bytes.{any_below}
 use Rattle.content.proofs.keys.bad_valid_keys.Given as goal

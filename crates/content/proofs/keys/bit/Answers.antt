@@ -1,5 +1,4 @@
 -- `content::keys::bit` meets its contract. Assumes nothing.
-use Rattle.std.proofs.Common.{rules}
 use Rattle.content.proofs.Tests.{bit_is}
 use Rattle.content.proofs.keys.bit.Goals as goal
 

@@ -1,5 +1,5 @@
 -- `content::keys::key_at` meets its contract: each arm is its width. Assumes nothing.
-use Rattle.std.proofs.Common.{◌+◌, ◌∙◌, arith, rules}
+use Rattle.std.proofs.Common.{◌+◌, ◌∙◌, arith}
 use Rattle.content.proofs.Tests.{byte-number, width-last4}
 use Rattle.content.proofs.keys.key_at.Goals as goal
 

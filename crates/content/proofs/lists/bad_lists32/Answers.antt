@@ -1,9 +1,7 @@
 -- `content::lists::bad_lists32` meets its contract: bad gathers the views below i. Assumes nothing.
-use Rattle.std.proofs.Common.{◌≡◌, ◌-◌, ◌^◌, ◌≤◌, refl, arith, rules}
+use Rattle.std.proofs.Common.{◌-◌, ◌^◌, refl, arith, rules}
 use Rattle.content.proofs.Fold.{any-end, any-more, any-start}
 use Rattle.content.proofs.Tests.{range-is}
-use Rattle.content.specs.Numbers.{bad_range_at}
-use Rattle.format.specs.Bytes.{any_below}
 use Rattle.content.proofs.lists.bad_lists32.Goals as goal
 
 pub loop-i-init : goal.loop-i-init

@@ -1,7 +1,5 @@
 -- What the loops of `lists::bad_lists32` keep, and their measures. Assumes nothing.
-use Rattle.std.proofs.Common.{◌≡◌, ◌-◌, ◌^◌, ◌≤◌, refl, arith, rules}
-use Rattle.content.proofs.Fold.{any-end, any-more, any-start}
-use Rattle.content.proofs.Tests.{range-is}
+use Rattle.std.proofs.Common.{◌≡◌, ◌-◌, ◌≤◌}
 use Rattle.content.specs.Numbers.{bad_range_at}
 use Rattle.format.specs.Bytes.{any_below}
 use Rattle.content.proofs.lists.bad_lists32.Given as goal

@@ -1,8 +1,7 @@
 -- `content::lists::bad_lists64` meets its contract: the top bit gathers the views below i. Assumes nothing.
-use Rattle.std.proofs.Common.{◌≡◌, ◌-◌, ◌^◌, ◌≤◌, leb, refl, ◌∙◌, arith, rules}
+use Rattle.std.proofs.Common.{◌-◌, ◌^◌, refl, ◌∙◌, arith, rules}
 use Rattle.content.proofs.Fold.{any-end}
 use Rattle.content.proofs.Signs.{range-more}
-use Rattle.content.specs.Numbers.{bad_range_at}
 use Rattle.format.specs.Bytes.{any_below}
 use Rattle.content.proofs.lists.bad_lists64.Goals as goal
 

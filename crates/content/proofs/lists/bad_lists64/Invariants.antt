@@ -1,7 +1,5 @@
 -- What the loops of `lists::bad_lists64` keep, and their measures. Assumes nothing.
-use Rattle.std.proofs.Common.{◌≡◌, ◌-◌, ◌^◌, ◌≤◌, leb, refl, ◌∙◌, arith, rules}
-use Rattle.content.proofs.Fold.{any-end}
-use Rattle.content.proofs.Signs.{range-more}
+use Rattle.std.proofs.Common.{◌≡◌, ◌-◌, ◌^◌, ◌≤◌, leb}
 use Rattle.content.specs.Numbers.{bad_range_at}
 use Rattle.format.specs.Bytes.{any_below}
 use Rattle.content.proofs.lists.bad_lists64.Given as goal

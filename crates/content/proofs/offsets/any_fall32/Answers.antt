@@ -1,7 +1,6 @@
 -- `content::offsets::any_fall32` meets its contract: bad gathers the first number's sign and the falls below i. Assumes nothing.
-use Rattle.std.proofs.Common.{◌-◌, ◌^◌, ◌≤◌, refl, arith, rules}
-use Rattle.content.proofs.Signs.{Flagged, flag-end, flag-start, number-first, turned_more}
-use Rattle.content.specs.Numbers.{falls, number}
+use Rattle.std.proofs.Common.{◌-◌, ◌^◌, refl, arith, rules}
+use Rattle.content.proofs.Signs.{flag-end, flag-start, number-first, turned_more}
 use Rattle.format.specs.Bytes.{negative}
 use Rattle.content.proofs.offsets.any_fall32.Goals as goal
 

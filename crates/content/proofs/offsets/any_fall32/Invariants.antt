@@ -1,8 +1,7 @@
 -- What the loops of `offsets::any_fall32` keep, and their measures. Assumes nothing.
-use Rattle.std.proofs.Common.{◌-◌, ◌^◌, ◌≤◌, refl, arith, rules}
-use Rattle.content.proofs.Signs.{Flagged, flag-end, flag-start, number-first, turned_more}
+use Rattle.std.proofs.Common.{◌-◌, ◌≤◌}
+use Rattle.content.proofs.Signs.{Flagged}
 use Rattle.content.specs.Numbers.{falls, number}
-use Rattle.format.specs.Bytes.{negative}
 use Rattle.content.proofs.offsets.any_fall32.Given as goal
 
 abbrev pub invariant-loop-i : goal.invariant-loop-i

@@ -1,7 +1,6 @@
 -- `content::offsets::any_fall64` meets its contract: the top bit gathers the falls below i. Assumes nothing.
-use Rattle.std.proofs.Common.{◌-◌, ◌^◌, ◌≤◌, refl, arith, rules}
-use Rattle.content.proofs.Signs.{Signs, fall-more, number-first, signs-end, signs-start}
-use Rattle.content.specs.Numbers.{falls, number}
+use Rattle.std.proofs.Common.{◌-◌, ◌^◌, refl, arith, rules}
+use Rattle.content.proofs.Signs.{fall-more, number-first, signs-end, signs-start}
 use Rattle.format.specs.Bytes.{negative}
 use Rattle.content.proofs.offsets.any_fall64.Goals as goal
 

@@ -1,8 +1,7 @@
 -- What the loops of `offsets::any_fall64` keep, and their measures. Assumes nothing.
-use Rattle.std.proofs.Common.{◌-◌, ◌^◌, ◌≤◌, refl, arith, rules}
-use Rattle.content.proofs.Signs.{Signs, fall-more, number-first, signs-end, signs-start}
+use Rattle.std.proofs.Common.{◌-◌, ◌≤◌}
+use Rattle.content.proofs.Signs.{Signs}
 use Rattle.content.specs.Numbers.{falls, number}
-use Rattle.format.specs.Bytes.{negative}
 use Rattle.content.proofs.offsets.any_fall64.Given as goal
 
 abbrev pub invariant-loop-i : goal.invariant-loop-i

@@ -1,5 +1,4 @@
 -- `content::offsets::bad_offsets64` meets its contract. Assumes nothing.
-use Rattle.std.proofs.Common.{rules}
 use Rattle.content.proofs.Signs.{offsets-by-sign}
 use Rattle.content.proofs.offsets.bad_offsets64.Goals as goal
 

@@ -1,9 +1,7 @@
 -- `content::runs::any_stall32` meets its contract: bad gathers the ends below i that do not rise. Assumes nothing.
-use Rattle.std.proofs.Common.{◌≡◌, ◌-◌, ◌≤◌, refl, rules}
+use Rattle.std.proofs.Common.{◌-◌, refl, rules}
 use Rattle.content.proofs.Fold.{any-end, any-more, any-start}
 use Rattle.content.proofs.Tests.{stalls-is}
-use Rattle.content.specs.Numbers.{stalls}
-use Rattle.format.specs.Bytes.{any_below}
 use Rattle.content.proofs.runs.any_stall32.Goals as goal
 
 pub loop-i-init : goal.loop-i-init

@@ -1,7 +1,5 @@
 -- What the loops of `runs::any_stall32` keep, and their measures. Assumes nothing.
-use Rattle.std.proofs.Common.{◌≡◌, ◌-◌, ◌≤◌, refl, rules}
-use Rattle.content.proofs.Fold.{any-end, any-more, any-start}
-use Rattle.content.proofs.Tests.{stalls-is}
+use Rattle.std.proofs.Common.{◌≡◌, ◌-◌, ◌≤◌}
 use Rattle.content.specs.Numbers.{stalls}
 use Rattle.format.specs.Bytes.{any_below}
 use Rattle.content.proofs.runs.any_stall32.Given as goal

@@ -1,7 +1,6 @@
 -- `content::runs::any_stall64` meets its contract: the top bit gathers the ends below i that do not rise. Assumes nothing.
-use Rattle.std.proofs.Common.{◌-◌, ◌^◌, ◌≤◌, refl, arith, rules}
-use Rattle.content.proofs.Signs.{Signs, number-first, signs-end, signs-start, stall-more}
-use Rattle.content.specs.Numbers.{number, stalls}
+use Rattle.std.proofs.Common.{◌-◌, ◌^◌, refl, arith, rules}
+use Rattle.content.proofs.Signs.{number-first, signs-end, signs-start, stall-more}
 use Rattle.format.specs.Bytes.{negative}
 use Rattle.content.proofs.runs.any_stall64.Goals as goal
 

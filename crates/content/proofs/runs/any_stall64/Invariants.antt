@@ -1,8 +1,7 @@
 -- What the loops of `runs::any_stall64` keep, and their measures. Assumes nothing.
-use Rattle.std.proofs.Common.{◌-◌, ◌^◌, ◌≤◌, refl, arith, rules}
-use Rattle.content.proofs.Signs.{Signs, number-first, signs-end, signs-start, stall-more}
+use Rattle.std.proofs.Common.{◌-◌, ◌≤◌}
+use Rattle.content.proofs.Signs.{Signs}
 use Rattle.content.specs.Numbers.{number, stalls}
-use Rattle.format.specs.Bytes.{negative}
 use Rattle.content.proofs.runs.any_stall64.Given as goal
 
 abbrev pub invariant-loop-i : goal.invariant-loop-i

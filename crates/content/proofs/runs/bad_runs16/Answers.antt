@@ -1,5 +1,5 @@
 -- `content::runs::bad_runs16` meets its contract. Assumes nothing.
-use Rattle.std.proofs.Common.{arith, rules}
+use Rattle.std.proofs.Common.{arith}
 use Rattle.content.proofs.Tests.{no-runs, runs-are}
 use Rattle.content.proofs.runs.bad_runs16.Goals as goal
 

@@ -1,5 +1,5 @@
 -- `content::runs::bad_runs64` meets its contract. Assumes nothing.
-use Rattle.std.proofs.Common.{arith, rules}
+use Rattle.std.proofs.Common.{arith}
 use Rattle.content.proofs.Signs.{runs-by-sign}
 use Rattle.content.proofs.Tests.{no-runs}
 use Rattle.content.proofs.runs.bad_runs64.Goals as goal

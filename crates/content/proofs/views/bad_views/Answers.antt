@@ -1,8 +1,6 @@
 -- `content::views::bad_views` meets its contract: the views below i are right. Assumes nothing.
-use Rattle.std.proofs.Common.{◌≡◌, ◌+◌, ◌-◌, ◌*◌, ◌≤◌, false, sym, refl, ◌∙◌, rules}
-use Rattle.format.specs.Bytes.{any_below}
+use Rattle.std.proofs.Common.{◌+◌, ◌-◌, ◌*◌, false, sym, refl, ◌∙◌, rules}
 use Rattle.format.proofs.Laws.{any_found}
-use Rattle.content.specs.Numbers.{bad_view_at}
 use Rattle.content.proofs.Fold.{any-start, any-more, any-end}
 use Rattle.content.proofs.views.bad_views.Goals as goal
 

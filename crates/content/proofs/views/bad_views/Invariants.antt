@@ -1,9 +1,7 @@
 -- What the loops of `views::bad_views` keep, and their measures. Assumes nothing.
-use Rattle.std.proofs.Common.{◌≡◌, ◌+◌, ◌-◌, ◌*◌, ◌≤◌, false, sym, refl, ◌∙◌, rules}
+use Rattle.std.proofs.Common.{◌≡◌, ◌+◌, ◌-◌, ◌*◌, ◌≤◌, false}
 use Rattle.format.specs.Bytes.{any_below}
-use Rattle.format.proofs.Laws.{any_found}
 use Rattle.content.specs.Numbers.{bad_view_at}
-use Rattle.content.proofs.Fold.{any-start, any-more, any-end}
 use Rattle.content.proofs.views.bad_views.Given as goal
 
 abbrev pub invariant-loop-i : goal.invariant-loop-i

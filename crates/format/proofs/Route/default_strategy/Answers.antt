@@ -1,7 +1,6 @@
 -- `Route::default_strategy` meets its contract. Each return is the case of `route_of` that the tests on the way to it pick, and the test on floats is one of whole numbers by `share-above`.
 -- Assumes nothing.
-use Rattle.std.proofs.Common.{◌≡◌, ◌*◌, Bool, true, false, cond, eqb, ltb, ⊎_elim, arith, eq-eqb, ne_eqb}
-use borrow.Author.Tests.{eqb-false}
+use Rattle.std.proofs.Common.{◌≡◌, ◌*◌, Bool, true, false, cond, ltb, ⊎_elim, arith, eq-eqb, ne_eqb}
 use Rattle.format.specs.Mask.{route_of}
 use Rattle.format.specs.declared.Route.TheVariants.{Slices, Indices}
 use Rattle.format.proofs.Threshold.{share_above, in-float, share-above}

@@ -1,16 +1,8 @@
 -- `kept_data::data::bytes_by_stretches` meets its contract. The loop's invariant: n is the bytes of the kept rows below r. Assumes nothing.
 use native.Mathlib.Omega.{arith}
 use borrow.Author.Rules.{rules}
-use mathlib.Core.Path.{◌≡◌}
-use Prim.Native.Nat.{◌≤◌, ◌-◌, ◌+◌}
-use mathlib.Core.List.{map}
-use lib.ListN.{length}
-use Rattle.format.specs.Bytes.{chosen, join}
-use Rattle.format.specs.Node.{rows, first_number}
-use Rattle.format.specs.Kept.{own_bytes}
-use Rattle.nesting.specs.Rows.{keeps, picks_of}
+use Prim.Native.Nat.{◌-◌}
 use Rattle.nesting.proofs.Sieve.{node-few, len_is, len-fits, skip-fits, all-rows}
-use Rattle.stretches.specs.Stretches.{Seen}
 use Rattle.stretches.proofs.Minding.{seen_none}
 use Rattle.stretches.proofs.Spanned.{bytes-none, bytes-passed}
 use Rattle.stretches.proofs.Telling.{closer}

@@ -1,14 +1,12 @@
 -- `kept_data::data::null_by_stretches` meets its contract. The loop's invariant: no kept row below r is null. Assumes nothing.
 use native.Mathlib.Omega.{arith}
 use borrow.Author.Rules.{rules}
-use mathlib.Core.Path.{◌≡◌, sym, ◌∙◌}
-use Prim.Native.Nat.{◌≤◌, ◌-◌}
-use mathlib.Core.Bool.{false, not, ◌&&◌}
-use Rattle.format.specs.Bytes.{any_below}
-use Rattle.format.specs.Node.{rows, valid}
-use Rattle.nesting.specs.Rows.{keeps, picks_of}
+use mathlib.Core.Path.{sym, ◌∙◌}
+use Prim.Native.Nat.{◌-◌}
+use mathlib.Core.Bool.{false}
+use Rattle.format.specs.Node.{valid}
+use Rattle.nesting.specs.Rows.{keeps}
 use Rattle.nesting.proofs.Sieve.{node-few, len_is, len-few, len-fits, skip-fits}
-use Rattle.stretches.specs.Stretches.{Seen}
 use Rattle.stretches.proofs.Minding.{seen_none, alike-first}
 use Rattle.kept_data.proofs.Nulls.{marks-fit, valid-bit, any-start, null-valid, null-dropped, null-none, null-found}
 use Rattle.kept_data.proofs.data.null_by_stretches.Goals as goal

@@ -1,16 +1,11 @@
 -- What the loops of `data::null_by_stretches` keep, and their measures. Assumes nothing.
-use native.Mathlib.Omega.{arith}
-use borrow.Author.Rules.{rules}
-use mathlib.Core.Path.{◌≡◌, sym, ◌∙◌}
+use mathlib.Core.Path.{◌≡◌}
 use Prim.Native.Nat.{◌≤◌, ◌-◌}
 use mathlib.Core.Bool.{false, not, ◌&&◌}
 use Rattle.format.specs.Bytes.{any_below}
 use Rattle.format.specs.Node.{rows, valid}
 use Rattle.nesting.specs.Rows.{keeps, picks_of}
-use Rattle.nesting.proofs.Sieve.{node-few, len_is, len-few, len-fits, skip-fits}
 use Rattle.stretches.specs.Stretches.{Seen}
-use Rattle.stretches.proofs.Minding.{seen_none, alike-first}
-use Rattle.kept_data.proofs.Nulls.{marks-fit, valid-bit, any-start, null-valid, null-dropped, null-none, null-found}
 use Rattle.kept_data.proofs.data.null_by_stretches.Given as goal
 
 abbrev pub invariant-loop-r : goal.invariant-loop-r

@@ -1,12 +1,9 @@
 -- `kept_data::root::bytes_at_root` meets its contract. The loop's invariant: n is the bytes of the rows picked in the first i words. Assumes nothing.
 use native.Mathlib.Omega.{arith}
-use Prim.Native.Nat.{◌≤◌, ◌+◌, ◌-◌, ◌*◌}
-use mathlib.Core.Logic.{⊎_elim}
+use Prim.Native.Nat.{◌-◌, ◌*◌}
 use mathlib.Core.Path.{◌≡◌, ◌∙◌}
-use Rattle.format.specs.Bytes.{chosen}
-use Rattle.slots.specs.Source.{slot_of, word_at}
+use Rattle.slots.specs.Source.{word_at}
 use Rattle.slots.proofs.Reading.{slot-past}
-use Rattle.spans.specs.Spans.{offset_from, spans}
 use Rattle.spans.proofs.ByWords.{no_words, rising_word, word_small, word_fits, word_more, word_none}
 use Rattle.nesting.proofs.Sieve.{node-few, skip-fits}
 use Rattle.kept_data.proofs.Texts.{first_fits, offset-lies}

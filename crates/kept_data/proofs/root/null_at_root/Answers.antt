@@ -1,12 +1,10 @@
 -- `kept_data::root::null_at_root` meets its contract. The loop's invariant: no picked slot of the first w words is null. Assumes nothing.
 use native.Mathlib.Omega.{arith}
 use borrow.Author.Rules.{rules}
-use Prim.Native.Nat.{◌+◌, ◌*◌, ◌-◌, ◌≤◌}
+use Prim.Native.Nat.{◌+◌, ◌*◌, ◌-◌}
 use mathlib.Core.Bool.{false, not, ◌&&◌}
-use mathlib.Core.Logic.{⊎_elim}
 use mathlib.Core.Path.{◌≡◌, ◌∙◌}
 use Rattle.format.specs.Bytes.{bit_in}
-use Rattle.format.specs.Slots.{All}
 use Rattle.format.proofs.SlotLaws.{all_none}
 use Rattle.slots.specs.Source.{slot_of, word_at}
 use Rattle.slots.proofs.Reading.{slot-past}

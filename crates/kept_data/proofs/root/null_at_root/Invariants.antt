@@ -1,16 +1,9 @@
 -- What the loops of `root::null_at_root` keep, and their measures. Assumes nothing.
-use native.Mathlib.Omega.{arith}
-use borrow.Author.Rules.{rules}
 use Prim.Native.Nat.{◌+◌, ◌*◌, ◌-◌, ◌≤◌}
 use mathlib.Core.Bool.{false, not, ◌&&◌}
-use mathlib.Core.Logic.{⊎_elim}
-use mathlib.Core.Path.{◌≡◌, ◌∙◌}
 use Rattle.format.specs.Bytes.{bit_in}
 use Rattle.format.specs.Slots.{All}
-use Rattle.format.proofs.SlotLaws.{all_none}
-use Rattle.slots.specs.Source.{slot_of, word_at}
-use Rattle.slots.proofs.Reading.{slot-past}
-use Rattle.kept_data.proofs.Rooted.{null-here, null-not, null-end}
+use Rattle.slots.specs.Source.{slot_of}
 use Rattle.kept_data.proofs.root.null_at_root.Given as goal
 
 abbrev pub invariant-loop-w : goal.invariant-loop-w

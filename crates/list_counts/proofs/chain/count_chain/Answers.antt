@@ -1,14 +1,10 @@
 -- `list_counts::chain::count_chain` meets its contract. The loop's invariant: sum is what the rows picked in the first k words span. Assumes nothing.
-use Prim.Native.Nat.{◌+◌, ◌-◌, ◌*◌, ◌≤◌}
-use mathlib.Core.Logic.{⊎_elim}
+use Prim.Native.Nat.{◌+◌, ◌-◌, ◌*◌}
 use mathlib.Core.Path.{◌≡◌, ◌∙◌}
 use native.Mathlib.Omega.{arith}
-use Rattle.format.specs.Bytes.{chosen}
-use Rattle.slots.specs.Source.{slot_of, word_at}
+use Rattle.slots.specs.Source.{word_at}
 use Rattle.nesting.proofs.Picks.{none-past}
-use Rattle.spans.specs.Spans.{spans}
 use Rattle.spans.proofs.ByWords.{no_words, word_below, word_small, word_fits, word_more, word_none}
-use Rattle.list_counts.specs.Chains.{followed}
 use Rattle.list_counts.proofs.Counts.{all-picked, passed_over}
 use Rattle.list_counts.proofs.chain.count_chain.Goals as goal
 use Rattle.list_counts.proofs.chain.count_chain.Goals.{Joined-k-len}

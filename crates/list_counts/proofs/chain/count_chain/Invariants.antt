@@ -1,15 +1,10 @@
 -- What the loops of `chain::count_chain` keep, and their measures. Assumes nothing.
 use Prim.Native.Nat.{◌+◌, ◌-◌, ◌*◌, ◌≤◌}
-use mathlib.Core.Logic.{⊎_elim}
-use mathlib.Core.Path.{◌≡◌, ◌∙◌}
-use native.Mathlib.Omega.{arith}
+use mathlib.Core.Path.{◌≡◌}
 use Rattle.format.specs.Bytes.{chosen}
-use Rattle.slots.specs.Source.{slot_of, word_at}
-use Rattle.nesting.proofs.Picks.{none-past}
+use Rattle.slots.specs.Source.{slot_of}
 use Rattle.spans.specs.Spans.{spans}
-use Rattle.spans.proofs.ByWords.{no_words, word_below, word_small, word_fits, word_more, word_none}
 use Rattle.list_counts.specs.Chains.{followed}
-use Rattle.list_counts.proofs.Counts.{all-picked, passed_over}
 use Rattle.list_counts.proofs.chain.count_chain.Given as goal
 
 abbrev pub invariant-loop-k : goal.invariant-loop-k

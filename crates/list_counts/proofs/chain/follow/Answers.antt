@@ -1,8 +1,7 @@
 -- `list_counts::chain::follow` meets its contract. The loop's invariant: r is left to be followed down the k innermost levels. Assumes nothing.
 use Prim.Native.Nat.{◌-◌}
-use mathlib.Core.Path.{◌≡◌, refl, sym, ◌∙◌}
+use mathlib.Core.Path.{refl, sym, ◌∙◌}
 use native.Mathlib.Omega.{arith}
-use Rattle.list_counts.specs.Chains.{followed, Reaches}
 use Rattle.list_counts.proofs.Climbing.{Served, served, followed-none}
 use Rattle.list_counts.proofs.chain.follow.Goals as goal
 use Rattle.list_counts.proofs.chain.follow.Goals.{After-number-arg-1}

@@ -1,9 +1,7 @@
 -- What the loops of `chain::follow` keep, and their measures. Assumes nothing.
 use Prim.Native.Nat.{◌-◌}
-use mathlib.Core.Path.{◌≡◌, refl, sym, ◌∙◌}
-use native.Mathlib.Omega.{arith}
+use mathlib.Core.Path.{◌≡◌}
 use Rattle.list_counts.specs.Chains.{followed, Reaches}
-use Rattle.list_counts.proofs.Climbing.{Served, served, followed-none}
 use Rattle.list_counts.proofs.chain.follow.Given as goal
 
 abbrev pub invariant-loop-k : goal.invariant-loop-k

@@ -2,7 +2,7 @@
 use Prim.Native.Nat.{◌-◌}
 use mathlib.Core.Path.{refl}
 use native.Mathlib.Omega.{arith}
-use Rattle.list_counts.proofs.Climbing.{Climbing, climb-none, climb-more, climb-done, climb-failed, is-parent, low, up-low, up-inside}
+use Rattle.list_counts.proofs.Climbing.{climb-none, climb-more, climb-done, climb-failed, is-parent, low, up-low, up-inside}
 use Rattle.list_counts.proofs.chain.levels_above.Goals as goal
 
 pub loop-count-init : goal.loop-count-init

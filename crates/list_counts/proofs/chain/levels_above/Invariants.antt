@@ -1,8 +1,6 @@
 -- What the loops of `chain::levels_above` keep, and their measures. Assumes nothing.
 use Prim.Native.Nat.{◌-◌}
-use mathlib.Core.Path.{refl}
-use native.Mathlib.Omega.{arith}
-use Rattle.list_counts.proofs.Climbing.{Climbing, climb-none, climb-more, climb-done, climb-failed, is-parent, low, up-low, up-inside}
+use Rattle.list_counts.proofs.Climbing.{Climbing}
 use Rattle.list_counts.proofs.chain.levels_above.Given as goal
 
 abbrev pub invariant-loop-count : goal.invariant-loop-count

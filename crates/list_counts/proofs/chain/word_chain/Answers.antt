@@ -1,13 +1,10 @@
 -- `list_counts::chain::word_chain` meets its contract. What `sum` lacks are the rows at the bits left in `rest`; a turn takes the lowest run. Assumes nothing.
 use Prim.Native.Nat.{◌+◌}
-use mathlib.Core.Path.{◌≡◌}
 use native.Mathlib.Omega.{arith}
 use borrow.Author.Rules.{rules}
-use Rattle.format.specs.Node.{rows}
-use Rattle.format.specs.Rows.{set_rows, Below}
+use Rattle.format.specs.Rows.{set_rows}
 use Rattle.format.proofs.RowLaws.{set-none}
 use Rattle.words.proofs.Carry.{rest_below}
-use Rattle.spans.specs.Spans.{spans}
 use Rattle.spans.proofs.Spanned.{spans-none, run_inside, run-rises, run-spans}
 use Rattle.list_counts.specs.Chains.{followed}
 use Rattle.list_counts.proofs.Climbing.{reaches}

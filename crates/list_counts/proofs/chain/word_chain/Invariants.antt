@@ -1,16 +1,10 @@
 -- What the loops of `chain::word_chain` keep, and their measures. Assumes nothing.
 use Prim.Native.Nat.{◌+◌}
 use mathlib.Core.Path.{◌≡◌}
-use native.Mathlib.Omega.{arith}
-use borrow.Author.Rules.{rules}
 use Rattle.format.specs.Node.{rows}
 use Rattle.format.specs.Rows.{set_rows, Below}
-use Rattle.format.proofs.RowLaws.{set-none}
-use Rattle.words.proofs.Carry.{rest_below}
 use Rattle.spans.specs.Spans.{spans}
-use Rattle.spans.proofs.Spanned.{spans-none, run_inside, run-rises, run-spans}
 use Rattle.list_counts.specs.Chains.{followed}
-use Rattle.list_counts.proofs.Climbing.{reaches}
 use Rattle.list_counts.proofs.chain.word_chain.Given as goal
 
 abbrev pub invariant-loop-rest : goal.invariant-loop-rest

@@ -1,18 +1,11 @@
 -- What the loops of `edges::count_runs` keep, and their measures. Assumes nothing.
 use Prim.Native.Nat.{suc, ◌≤◌, ◌-◌}
-use mathlib.Core.Bool.{and-eq-true_iff}
-use mathlib.Core.Logic.{⊎_elim}
-use mathlib.Core.Path.{◌≡◌, ap, ◌∙◌}
-use native.Mathlib.Omega.{arith}
-use borrow.Author.Tests.{leb-true}
+use mathlib.Core.Path.{◌≡◌}
 use lib.ListN.{length}
 use Rattle.format.specs.Bytes.{chosen}
 use Rattle.format.specs.Node.{rows}
-use Rattle.slots.specs.Source.{slot_of}
-use Rattle.scan.specs.Asked.{any_in}
 use Rattle.nesting.specs.Rows.{edge}
-use Rattle.nesting.proofs.Sieve.{byte_small, count-more, count_none}
-use Rattle.nesting.proofs.RunEdges.{few, runs-are, runs-small, edge-first, edge-last, edge-rises, run_picked, kept-picked}
+use Rattle.nesting.proofs.RunEdges.{run_picked}
 use Rattle.nesting.proofs.edges.count_runs.Given as goal
 
 abbrev pub invariant-loop-j : goal.invariant-loop-j

@@ -1,7 +1,6 @@
 -- `nesting::edges::end_edge` meets its contract: the run end, less skip, cut at len. Assumes nothing.
 use mathlib.Core.Path.{◌∙◌}
 use native.Mathlib.Omega.{arith}
-use borrow.Author.Rules.{rules}
 use Rattle.nesting.proofs.RunEdges.{skip_is, skip-few, edge-next}
 use Rattle.nesting.proofs.edges.end_edge.Goals as goal
 

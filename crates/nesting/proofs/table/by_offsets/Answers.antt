@@ -1,7 +1,6 @@
 -- `nesting::table::by_offsets` meets its contract: the root has no list before it. Assumes nothing.
 use Prim.Native.Nat.{◌-◌}
 use native.Mathlib.Omega.{arith}
-use borrow.Author.Rules.{rules}
 use Rattle.nesting.specs.Rows.{by_offsets}
 use Rattle.nesting.proofs.Direct.{direct_is}
 use Rattle.nesting.proofs.table.by_offsets.Goals as goal

@@ -1,14 +1,11 @@
 -- `nesting::table::table_of` meets its contract. The loop's invariant: the first j numbers of the table are read. Assumes nothing.
 use Rattle.nesting.proofs.Arrays.{holds-less, table-lies, table-read}
 use Rattle.pack.proofs.Stack.{holds-none, holds_more}
-use Prim.Native.Nat.{◌+◌, ◌*◌, ◌-◌, ◌≤◌}
-use mathlib.Core.Path.{◌≡◌, refl}
+use Prim.Native.Nat.{◌+◌, ◌*◌, ◌-◌}
+use mathlib.Core.Path.{refl}
 use native.Mathlib.Omega.{arith}
 use borrow.Author.Rules.{rules}
-use lib.ListN.{length, length-set}
-use Rattle.format.specs.Bytes.{le}
-use Rattle.format.specs.Node.{table_start}
-use Rattle.pack.specs.Tree.{Holds}
+use lib.ListN.{length-set}
 use Rattle.nesting.proofs.table.table_of.Goals as goal
 
 pub overflow_sub-journal : goal.overflow_sub-journal

@@ -1,11 +1,7 @@
 -- What the loops of `table::table_of` keep, and their measures. Assumes nothing.
-use Rattle.nesting.proofs.Arrays.{holds-less, table-lies, table-read}
-use Rattle.pack.proofs.Stack.{holds-none, holds_more}
 use Prim.Native.Nat.{◌+◌, ◌*◌, ◌-◌, ◌≤◌}
-use mathlib.Core.Path.{◌≡◌, refl}
-use native.Mathlib.Omega.{arith}
-use borrow.Author.Rules.{rules}
-use lib.ListN.{length, length-set}
+use mathlib.Core.Path.{◌≡◌}
+use lib.ListN.{length}
 use Rattle.format.specs.Bytes.{le}
 use Rattle.format.specs.Node.{table_start}
 use Rattle.pack.specs.Tree.{Holds}

@@ -1,6 +1,5 @@
 -- `nesting::top::top_of` meets its contract. The loop's invariant: node i keeps the node's rows. Assumes nothing.
 use native.Mathlib.Omega.{arith}
-use Rattle.nesting.specs.Rows.{Level}
 use Rattle.nesting.proofs.Levels.{level_all, top-root, up, few, parent-few, level-struct, level-union, level-last}
 use Rattle.nesting.proofs.top.top_of.Goals as goal
 

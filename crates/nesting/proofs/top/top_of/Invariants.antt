@@ -1,7 +1,5 @@
 -- What the loops of `top::top_of` keep, and their measures. Assumes nothing.
-use native.Mathlib.Omega.{arith}
 use Rattle.nesting.specs.Rows.{Level}
-use Rattle.nesting.proofs.Levels.{level_all, top-root, up, few, parent-few, level-struct, level-union, level-last}
 use Rattle.nesting.proofs.top.top_of.Given as goal
 
 abbrev pub invariant-loop-i : goal.invariant-loop-i

@@ -1,5 +1,4 @@
 -- `pack::frame::carries_counts` meets its contract: the mark is the trailer's. Assumes nothing.
-use borrow.Author.Rules.{rules}
 use Rattle.format.specs.Node.{carries_counts}
 use Rattle.pack.proofs.frame.carries_counts.Goals as goal
 

@@ -1,5 +1,4 @@
 -- `pack::frame::wrong_mark` meets its contract: the mark is the trailer's. Assumes nothing.
-use borrow.Author.Rules.{rules}
 use Rattle.format.specs.Verdict.{wrong_mark}
 use Rattle.pack.proofs.frame.wrong_mark.Goals as goal
 

@@ -1,5 +1,4 @@
 -- `pack::frame::wrong_table` meets its contract: the numbers are the trailer's. Assumes nothing.
-use borrow.Author.Rules.{rules}
 use Rattle.format.specs.Verdict.{wrong_table}
 use Rattle.pack.proofs.frame.wrong_table.Goals as goal
 

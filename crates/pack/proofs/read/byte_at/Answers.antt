@@ -1,5 +1,4 @@
 -- `pack::read::byte_at` meets its contract: past the end `get_or` gives its default. Assumes nothing.
-use borrow.Author.Rules.{rules}
 use lib.Dec.{lit<}
 use lib.ListN.{get_or-eq_default}
 use mathlib.Core.Path.{refl, sym}

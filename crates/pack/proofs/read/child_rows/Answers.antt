@@ -1,6 +1,5 @@
 -- `pack::read::child_rows` meets its contract. Assumes nothing.
 use Rattle.pack.specs.declared.Node.{Node}
-use borrow.Author.Rules.{rules}
 use mathlib.Core.Path.{◌∙◌, ap}
 use native.Mathlib.Numerals.{add-one}
 use Rattle.pack.proofs.read.child_rows.Goals as goal

@@ -1,6 +1,5 @@
 -- `pack::read::node_at` meets its contract: each field is what the callee read. Assumes nothing.
 use Prim.Native.Nat.{◌*◌, ◌+◌, ℕ}
-use borrow.Author.Rules.{rules}
 use mathlib.Core.List.{List}
 use mathlib.Core.Path.{◌∙◌, ◌≡◌, ap}
 use native.Mathlib.Nat.{add-zero}

@@ -1,6 +1,5 @@
 -- `pack::read::node_count` meets its contract. Assumes nothing.
 use Rattle.pack.specs.declared.Trailer.{Trailer}
-use borrow.Author.Rules.{rules}
 use mathlib.Core.Path.{ap}
 use Rattle.pack.proofs.read.node_count.Goals as goal
 

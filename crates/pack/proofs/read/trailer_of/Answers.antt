@@ -1,5 +1,4 @@
 -- `pack::read::trailer_of` meets its contract: each field is what the callee read. Assumes nothing.
-use borrow.Author.Rules.{rules}
 use Rattle.format.specs.Node.{mark_of, node_count, root_rows, table_start}
 use Rattle.pack.proofs.read.trailer_of.Goals as goal
 

@@ -1,5 +1,4 @@
 -- `pack::read::u32_at` meets its contract: `le 4` unfolds to the sum that the code writes. Assumes nothing.
-use borrow.Author.Rules.{rules}
 use native.Mathlib.Nat.{add-zero}
 use native.Mathlib.Omega.{arith}
 use Rattle.format.specs.Bytes.{le, sum_below}

@@ -1,14 +1,10 @@
 -- What the loops of `tree::any_bad_data_buffer` keep, and their measures. Assumes nothing.
 use Prim.Native.Nat.{◌-◌, ◌≤◌}
-use borrow.Author.Rules.{rules}
 use lib.Dec.{ltb}
 use mathlib.Core.Bool.{◌&&◌}
-use mathlib.Core.Path.{◌∙◌, ◌≡◌, ap, refl}
-use native.Mathlib.Omega.{arith}
-use Rattle.content.proofs.Fold.{any-end, any-more, any-start}
+use mathlib.Core.Path.{◌≡◌}
 use Rattle.format.specs.Bytes.{any_below}
 use Rattle.format.specs.Verdict.{bad_data_buffer}
-use Rattle.pack.proofs.Closed.{data-buffer-is}
 use Rattle.pack.proofs.tree.any_bad_data_buffer.Given as goal
 
 abbrev pub invariant-loop-i : goal.invariant-loop-i

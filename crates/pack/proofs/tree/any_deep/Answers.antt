@@ -1,11 +1,8 @@
 -- `pack::tree::any_deep` meets its contract: bad gathers the nodes below i. Assumes nothing.
-use Prim.Native.Nat.{◌-◌, ◌≤◌}
+use Prim.Native.Nat.{◌-◌}
 use borrow.Author.Rules.{rules}
-use lib.Dec.{ltb}
-use lib.ListN.{get_or}
-use mathlib.Core.Path.{◌≡◌, refl}
+use mathlib.Core.Path.{refl}
 use Rattle.content.proofs.Fold.{any-end, any-more, any-start}
-use Rattle.format.specs.Bytes.{any_below}
 use Rattle.pack.proofs.tree.any_deep.Goals as goal
 
 pub loop-i-init : goal.loop-i-init

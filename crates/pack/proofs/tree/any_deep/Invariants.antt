@@ -1,10 +1,8 @@
 -- What the loops of `tree::any_deep` keep, and their measures. Assumes nothing.
 use Prim.Native.Nat.{◌-◌, ◌≤◌}
-use borrow.Author.Rules.{rules}
 use lib.Dec.{ltb}
 use lib.ListN.{get_or}
-use mathlib.Core.Path.{◌≡◌, refl}
-use Rattle.content.proofs.Fold.{any-end, any-more, any-start}
+use mathlib.Core.Path.{◌≡◌}
 use Rattle.format.specs.Bytes.{any_below}
 use Rattle.pack.proofs.tree.any_deep.Given as goal
 

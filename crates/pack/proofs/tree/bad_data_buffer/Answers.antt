@@ -1,5 +1,4 @@
 -- `pack::tree::bad_data_buffer` meets its contract: the fields are the nodes' own. Assumes nothing.
-use borrow.Author.Rules.{rules}
 use Rattle.format.specs.Node.{has_no_bitmap, of_kind}
 use Rattle.pack.proofs.tree.bad_data_buffer.Goals as goal
 

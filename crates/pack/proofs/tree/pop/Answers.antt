@@ -1,6 +1,4 @@
 -- `pack::tree::pop` meets its contract: r nodes are still to be looked at. Assumes nothing.
-use Prim.Native.Nat.{◌≤◌}
-use borrow.Author.Rules.{rules}
 use mathlib.Core.Path.{◌∙◌, ◌≡◌, refl}
 use native.Mathlib.Omega.{arith}
 use Rattle.pack.proofs.Stack.{pop-on, pop-stop}

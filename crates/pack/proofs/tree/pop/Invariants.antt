@@ -1,9 +1,6 @@
 -- What the loops of `tree::pop` keep, and their measures. Assumes nothing.
 use Prim.Native.Nat.{◌≤◌}
-use borrow.Author.Rules.{rules}
-use mathlib.Core.Path.{◌∙◌, ◌≡◌, refl}
-use native.Mathlib.Omega.{arith}
-use Rattle.pack.proofs.Stack.{pop-on, pop-stop}
+use mathlib.Core.Path.{◌≡◌}
 use Rattle.pack.specs.Tree.{popped}
 use Rattle.pack.proofs.tree.pop.Given as goal
 

@@ -1,5 +1,4 @@
 -- `pack::tree::top` meets its contract. Assumes nothing.
-use borrow.Author.Rules.{rules}
 use borrow.Author.Tests.{eq-eqb, ne_eqb}
 use Rattle.pack.proofs.tree.top.Goals as goal
 

@@ -1,12 +1,11 @@
 -- `pack::tree::walk_of` meets its contract: the open nodes stand in the first d places. Assumes nothing.
 use Rattle.pack.specs.declared.Node.{Node}
 use Prim.Native.Nat.{◌-◌, ℕ}
-use borrow.Author.Rules.{rules}
 use lib.ListN.{length}
 use mathlib.Core.Path.{◌∙◌, ◌≡◌, ap, refl}
 use native.Mathlib.Omega.{arith}
 use Rattle.format.specs.Node.{ancestors, node_count}
-use Rattle.pack.proofs.Stack.{Walking, walk-on, walk-rest, walk_start}
+use Rattle.pack.proofs.Stack.{walk-on, walk-rest, walk_start}
 use Rattle.pack.proofs.tree.walk_of.Goals as goal
 
 pub loop-i-init : goal.loop-i-init

@@ -1,12 +1,7 @@
 -- What the loops of `tree::walk_of` keep, and their measures. Assumes nothing.
-use Rattle.pack.specs.declared.Node.{Node}
-use Prim.Native.Nat.{◌-◌, ℕ}
-use borrow.Author.Rules.{rules}
-use lib.ListN.{length}
-use mathlib.Core.Path.{◌∙◌, ◌≡◌, ap, refl}
-use native.Mathlib.Omega.{arith}
-use Rattle.format.specs.Node.{ancestors, node_count}
-use Rattle.pack.proofs.Stack.{Walking, walk-on, walk-rest, walk_start}
+use Prim.Native.Nat.{◌-◌}
+use Rattle.format.specs.Node.{node_count}
+use Rattle.pack.proofs.Stack.{Walking}
 use Rattle.pack.proofs.tree.walk_of.Given as goal
 
 abbrev pub invariant-loop-i : goal.invariant-loop-i

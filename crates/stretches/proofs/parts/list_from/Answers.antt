@@ -1,6 +1,6 @@
 -- `stretches::parts::list_from` meets its contract. Assumes nothing.
 use native.Mathlib.Omega.{arith}
-use Rattle.nesting.proofs.ListAt.{list-few, list-short, list-rows}
+use Rattle.nesting.proofs.ListAt.{list-short, list-rows}
 use Rattle.stretches.proofs.Places.{before-row}
 use borrow.Author.Rules.{rules}
 use Rattle.stretches.proofs.parts.list_from.Goals as goal

@@ -1,10 +1,7 @@
 -- `stretches::parts::list_past` meets its contract. Assumes nothing.
 use Prim.Native.Nat.{◌-◌}
-use mathlib.Core.Path.{◌≡◌}
 use native.Mathlib.Omega.{arith}
-use Rattle.format.specs.Node.{rows}
 use Rattle.nesting.proofs.ListAt.{list-few, list-short, list-rows, rows_few}
-use Rattle.stretches.specs.Stretches.{Before}
 use Rattle.stretches.proofs.Places.{before_more, past-here, past_all}
 use Rattle.stretches.proofs.parts.list_past.Goals as goal
 

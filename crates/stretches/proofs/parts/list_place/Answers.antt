@@ -1,7 +1,7 @@
 -- `stretches::parts::list_place` meets its contract. Assumes nothing.
 use native.Mathlib.Omega.{arith}
 use mathlib.Core.Path.{sym, ◌∙◌}
-use Rattle.nesting.proofs.ListAt.{list-few, list-short, list-rows, rows_few}
+use Rattle.nesting.proofs.ListAt.{list-short, list-rows, rows_few}
 use Rattle.stretches.proofs.Places.{found-past, found-gap, found-row, found-null}
 use borrow.Author.Rules.{rules}
 use Rattle.stretches.proofs.parts.list_place.Goals as goal

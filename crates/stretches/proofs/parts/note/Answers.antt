@@ -1,6 +1,5 @@
 -- `stretches::parts::note` meets its contract. Assumes nothing.
 use mathlib.Core.Path.{refl}
-use native.Mathlib.Omega.{arith}
 use Rattle.stretches.specs.Stretches.{noted}
 use borrow.Author.Rules.{rules}
 use Rattle.stretches.proofs.parts.note.Goals as goal

@@ -1,6 +1,5 @@
 -- `stretches::parts::picked` meets its contract. Assumes nothing.
 use native.Mathlib.Omega.{arith}
-use mathlib.Core.Path.{sym, ◌∙◌}
 use Rattle.slots.proofs.Reading.{slot-past}
 use Rattle.scan.proofs.Asked.{first_run-is, first-end}
 use Rattle.stretches.proofs.Minding.{picked_none, picked-run, picked-end}

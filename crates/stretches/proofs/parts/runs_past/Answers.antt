@@ -1,9 +1,8 @@
 -- `stretches::parts::runs_past` meets its contract. Assumes nothing.
-use Prim.Native.Nat.{◌-◌, ◌≤◌, ◌<◌}
+use Prim.Native.Nat.{◌-◌, ◌<◌}
 use native.Mathlib.Omega.{arith}
 use borrow.Author.Rules.{rules}
 use Rattle.nesting.proofs.RunEdges.{few, skip_is, skip-few, runs-are, runs-small}
-use Rattle.stretches.specs.Stretches.{Ended}
 use Rattle.stretches.proofs.Places.{ended-more}
 use Rattle.stretches.proofs.parts.runs_past.Goals as goal
 

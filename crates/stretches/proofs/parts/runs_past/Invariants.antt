@@ -1,10 +1,6 @@
 -- What the loops of `parts::runs_past` keep, and their measures. Assumes nothing.
 use Prim.Native.Nat.{◌-◌, ◌≤◌, ◌<◌}
-use native.Mathlib.Omega.{arith}
-use borrow.Author.Rules.{rules}
-use Rattle.nesting.proofs.RunEdges.{few, skip_is, skip-few, runs-are, runs-small}
 use Rattle.stretches.specs.Stretches.{Ended}
-use Rattle.stretches.proofs.Places.{ended-more}
 use Rattle.stretches.proofs.parts.runs_past.Given as goal
 
 abbrev pub invariant-loop-e : goal.invariant-loop-e

@@ -1,10 +1,8 @@
 -- `stretches::parts::valid_to` meets its contract. Assumes nothing.
-use Prim.Native.Nat.{◌-◌, ◌≤◌}
+use Prim.Native.Nat.{◌-◌}
 use mathlib.Core.Bool.{true}
 use mathlib.Core.Path.{sym, ◌∙◌}
 use native.Mathlib.Omega.{arith}
-use Rattle.format.specs.Node.{valid}
-use Rattle.format.specs.Slots.{All}
 use Rattle.format.proofs.SlotLaws.{all_none, all_more}
 use Rattle.nesting.proofs.ListAt.{list-few, rows_few, valid-none}
 use Rattle.stretches.proofs.parts.valid_to.Goals as goal

@@ -1,12 +1,8 @@
 -- What the loops of `parts::valid_to` keep, and their measures. Assumes nothing.
 use Prim.Native.Nat.{◌-◌, ◌≤◌}
 use mathlib.Core.Bool.{true}
-use mathlib.Core.Path.{sym, ◌∙◌}
-use native.Mathlib.Omega.{arith}
 use Rattle.format.specs.Node.{valid}
 use Rattle.format.specs.Slots.{All}
-use Rattle.format.proofs.SlotLaws.{all_none, all_more}
-use Rattle.nesting.proofs.ListAt.{list-few, rows_few, valid-none}
 use Rattle.stretches.proofs.parts.valid_to.Given as goal
 
 abbrev pub invariant-loop-r : goal.invariant-loop-r

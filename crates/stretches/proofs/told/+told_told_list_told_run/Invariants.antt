@@ -1,23 +1,13 @@
 -- They call each other with the node above: the measure is twice the node of which they tell, and more where it is asked for first. Assumes nothing.
 use Prim.Native.Nat.{◌+◌, ◌*◌, ◌-◌, ◌≤◌, min}
-use mathlib.Core.Bool.{false, and-eq-true_iff}
-use mathlib.Core.Path.{◌≡◌, refl, sym, ◌∙◌}
-use native.Mathlib.Omega.{arith}
-use borrow.Author.Rules.{rules}
-use borrow.Author.Tests.{leb-true, ltb-true}
+use mathlib.Core.Bool.{false}
+use mathlib.Core.Path.{◌≡◌}
 use Rattle.format.specs.Node.{rows}
 use Rattle.format.specs.Kept.{kept_rows}
 use Rattle.nesting.specs.Rows.{between, picks_of}
-use Rattle.nesting.proofs.Between.{empty}
-use Rattle.nesting.proofs.Counted.{ready_at}
-use Rattle.nesting.proofs.RunEdges.{few, skip-few}
-use Rattle.nesting.proofs.ListAt.{child-rows}
 use Rattle.nesting.proofs.Runs.{rows_from, rows_to}
-use Rattle.nesting.proofs.Sieve.{node-few, len-fits}
 use Rattle.stretches.specs.Stretches.{Seen}
-use Rattle.stretches.proofs.Minding.{seen-told, seen-noted}
-use Rattle.stretches.proofs.Telling.{closer, in_len, up, up-few, up-inside, up-ready, by-shared, shared-row, shared-told, runs-at, runs-next, list_at, list-next, nested32, nested64, next-told, carried-told, root_told, run-hit, run-miss, run-lo, run-hi, rows_fit, run-noted, list-room, kid-fits, list-noted, missed_more, gap-told, dropped-told, valid-told}
-use Prim.Native.Nat.{ℕ, ◌<◌}
+use Prim.Native.Nat.{◌<◌}
 use Rattle.stretches.proofs.told.+told_told_list_told_run.Given as goal
 
 abbrev pub decreases-told : goal.decreases-told
