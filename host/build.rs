@@ -7,11 +7,11 @@ fn main() {
         return;
     }
     let here = PathBuf::from(env::var_os("CARGO_MANIFEST_DIR").unwrap());
-    // `rt staticlib capi` writes target/staticlib
+    // `tools/build capi` writes target/staticlib
     let folder = here.parent().unwrap().join(env::var_os("PORT_LIB").unwrap_or("target/staticlib".into()));
     let archive = folder.join("libcapi.a");
     if !archive.exists() {
-        eprintln!("no {}: run 'rt staticlib capi', or name its folder in PORT_LIB", archive.display());
+        eprintln!("no {}: run 'tools/build capi', or name its folder in PORT_LIB", archive.display());
         process::exit(1);
     }
     println!("cargo::rerun-if-changed={}", archive.display());

@@ -1,5 +1,5 @@
 /*
- * The C entry points of the proved filter. Link target/staticlib/libcapi.a ('rt staticlib capi').
+ * The C entry points of the proved filter. Link target/staticlib/libcapi.a ('tools/build capi').
  *
  * docs/FORMAT.md says what packs, masks, routes, extracts and refusals are. A slice is a pointer and then its length, in elements.
  * Pointers are not null and aligned for their element, also where the length is 0. What is lent to be written (list, scratch,

@@ -1,6 +1,6 @@
 #!/usr/bin/env bash
 # The gate tried on small repositories of its own: a good one passes; an unlisted crate, a missing crate, an unproved function, a must-fail
-# edit that is not refused, and a test script that fails each make it fail. Last line: 'N passed, M failed'.
+# edit that is not refused or does not fit, and a test script that fails each make it fail. Last line: 'N passed, M failed'.
 set -u
 here=$(cd "$(dirname "$0")/.." && pwd)
 work=$(mktemp -d); trap 'rm -rf "$work"' EXIT
@@ -12,11 +12,13 @@ fresh() {
   cp "$here/tools/test" "$work/repo/tools/test"
   echo 'one:' >"$work/repo/crates.txt"
   cat >"$work/repo/crates/one/src/lib.rt" <<'RT'
-ghost use mathlib.Core.Path.{_≡_};
+#![tactic(auto)]
+
+ghost use Rattle.std.specs.Prelude.{◌≡◌};
 
 // What it was given.
 pub fn same(x: u64) -> u64
-    ensures { λ r. ⌜ r ≡ x ⌝ }
+    ensures { result ≡ x }
 {
     x
 }
@@ -43,6 +45,8 @@ fresh; sed -i 's/^    x$/    x + 1/' "$work/repo/crates/one/src/lib.rt"; expect 
 fresh; mkdir "$work/repo/crates/one/must-fail"
 printf 'file: src/lib.rt\nold: // What it was given.\nnew: // The very number.\n' >"$work/repo/crates/one/must-fail/comment.edit"
 expect 'a must-fail edit that is accepted fails' 1
+printf 'file: src/lib.rt\nold: // What it was before.\nnew: // The very number.\n' >"$work/repo/crates/one/must-fail/comment.edit"
+expect 'a must-fail edit whose text is not there fails' 1
 fresh; mkdir "$work/repo/tests"; echo 'echo 3 passed, 0 failed' >"$work/repo/tests/a.sh"; expect 'a test script counts' 0 '4 passed, 0 failed'
 echo 'echo 2 passed, 1 failed; exit 1' >"$work/repo/tests/b.sh"; expect 'a failing test script fails' 1
 

@@ -33,7 +33,7 @@ fail() { echo "host: $*"; echo "0 passed, 1 failed"; exit 1; }
 # the port's archive, made if it is not there or older than a source
 archive=target/staticlib/libcapi.a
 if [ ! -e $archive ] || [ -n "$(find crates -name '*.rt' -newer $archive -print -quit)" ]; then
-  rt staticlib capi >"$work/log" 2>&1 || { tail -n 20 "$work/log"; fail "no archive of the port"; }
+  tools/build capi >"$work/log" 2>&1 || { tail -n 20 "$work/log"; fail "no archive of the port"; }
 fi
 tests=(--offline --locked --quiet --features port --test faults --test stand_ins)
 (cd host && cargo build "${tests[@]}" --bin differ --bin verdicts) || fail "the host does not build"

@@ -1,6 +1,6 @@
 #!/usr/bin/env bash
 # The program `extract` tried as a user would: the sample, P1 and six against five of docs/FORMAT.md, and files that are missing, empty, wrong or large.
-# Needs the programs that the proofs' run built. Last line: 'N passed, M failed'.
+# Builds the program first. Last line: 'N passed, M failed'.
 set -u
 cd "$(dirname "$0")/.."
 root=$PWD
@@ -11,6 +11,12 @@ passed=0; failed=0
 same() {
   if [ "$2" = "$3" ]; then passed=$((passed + 1)); else failed=$((failed + 1)); echo "sample: $1: expected '$2', found '$3'"; fi
 }
+
+tools/build extract || { echo "0 passed, 1 failed"; exit 1; }
+# the sample is what the program's own run in the gate has
+for f in mask.pack journal.pack extract.pack; do
+  same "$f of the sample and of crates/extract/data" "$(sha256sum <sample/$f)" "$(sha256sum <crates/extract/data/$f)"
+done
 
 # extract: what the program prints in the work folder
 extract() { (cd "$work" && "$root/target/bin/extract"); }

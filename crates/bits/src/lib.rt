@@ -178,7 +178,7 @@ impl Packer {
     }
 }
 
-// `push` for a caller that has the packer by value: the packer is lent here, so that the caller's proof is not by hand.
+// `push` for a caller that has the packer by value: the packer is lent here, and given back.
 pub fn pack_bits(packer: Packer, bits: u64, n: u32) -> Packing
     requires { Pushable packer bits n }
     ensures { result ≡ packing (pushed packer bits n) }

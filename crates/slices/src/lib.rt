@@ -54,7 +54,7 @@ impl<'a> SlicesIterator<'a> {
     }
 }
 
-// `next` for a caller that has the reader's place by value: the reader is lent here, so that the caller's proof is not by hand.
+// `next` for a caller that has the reader's place by value: the reader is lent here, and its place given back.
 pub fn read_run(mask: &[u8], bits: Bits, at: usize) -> Step
     requires { Lies mask.now bits }
     ensures { result ≡ step_of mask.now bits at }
