@@ -8,7 +8,6 @@ ghost use Rattle.std.specs.Prelude.{◌≤◌, ◌<◌, length};
 
 use filter::filter;
 use format::Answer;
-use libc::STDOUT_FILENO;
 
 // What lent bytes and entries hold before a call. No entry is so large: it is a row number.
 const BEFORE: u8 = 0xA5;
@@ -34,12 +33,18 @@ fn wide_byte(x: u8) -> u64
     x as u64
 }
 
-fn say(text: &[u8]) {
-    io::write_all(STDOUT_FILENO, text);
+// A write that fails is passed over: what is printed is held to stored answers.
+fn say(rt: &impl Print, text: &[u8]) {
+    let _ = rt.write_all(text);
 }
 
-fn say_number(x: u64) {
-    io::print_decimal(STDOUT_FILENO, x);
+fn say_number(rt: &impl Print, x: u64) {
+    let _ = rt.print(x);
+}
+
+// A byte in two digits of hexadecimal.
+fn say_byte(rt: &impl Print, x: u8) {
+    let _ = print!(rt; "{x:02x}");
 }
 
 // One of the six numbers of a line.
@@ -60,28 +65,28 @@ fn at_most(x: u64, room: usize) -> usize
 }
 
 // The bytes in hexadecimal, a space before every four.
-fn say_extract(bytes: &[u8]) {
-    say(b"  extract");
+fn say_extract(rt: &impl Print, bytes: &[u8]) {
+    say(rt, b"  extract");
     let mut i: usize = 0;
     while i < bytes.len() {
         if i % 4 == 0 {
-            say(b" ");
+            say(rt, b" ");
         }
-        io::print_hex(STDOUT_FILENO, wide_byte(bytes[i]), 2);
+        say_byte(rt, bytes[i]);
         i += 1;
     }
-    say(b"\n");
+    say(rt, b"\n");
 }
 
-fn say_list(list: &[u32]) {
-    say(b"  list");
+fn say_list(rt: &impl Print, list: &[u32]) {
+    say(rt, b"  list");
     let mut i: usize = 0;
     while i < list.len() {
-        say(b" ");
-        say_number(wide(list[i]));
+        say(rt, b" ");
+        say_number(rt, wide(list[i]));
         i += 1;
     }
-    say(b"\n");
+    say(rt, b"\n");
 }
 
 // How many entries at the front of a list were stored.
@@ -99,10 +104,10 @@ fn stored(list: &[u32]) -> usize
 }
 
 // The stored entries, where a list was asked for; gives how many.
-fn say_stored(asked: bool, list: &[u32]) -> usize {
+fn say_stored(rt: &impl Print, asked: bool, list: &[u32]) -> usize {
     if asked {
         let n = stored(list);
-        say_list(&list[..n]);
+        say_list(rt, &list[..n]);
         return n;
     }
     0
@@ -147,6 +152,7 @@ fn entries_kept(list: &[u32], from: usize) -> bool {
 
 // Whether list, scratch and output are as they were, each from a place on.
 fn say_rest(
+    rt: &impl Print,
     list: &[u32],
     entries: usize,
     scratch: &[u8],
@@ -158,34 +164,35 @@ fn say_rest(
     let scratch_kept = bytes_kept(scratch, zeros);
     let output_kept = bytes_kept(output, size);
     if list_kept & scratch_kept & output_kept {
-        say(b"  rest kept\n");
+        say(rt, b"  rest kept\n");
     } else {
-        say(b"  REST CHANGED\n");
+        say(rt, b"  REST CHANGED\n");
     }
 }
 
 // What a call left that was not refused.
-fn say_done(bytes: u64, asked: bool, list: &[u32], scratch: &[u8], output: &[u8]) {
+fn say_done(rt: &impl Print, bytes: u64, asked: bool, list: &[u32], scratch: &[u8], output: &[u8]) {
     let size = at_most(bytes, output.len());
     if size as u64 != bytes {
-        say(b"  EXTRACT PAST THE OUTPUT\n");
+        say(rt, b"  EXTRACT PAST THE OUTPUT\n");
     }
-    say_extract(&output[..size]);
-    let entries = say_stored(asked, list);
+    say_extract(rt, &output[..size]);
+    let entries = say_stored(rt, asked, list);
     let zeros = cleared(scratch);
-    say(b"  scratch zero ");
-    say_number(zeros as u64);
-    say(b"\n");
-    say_rest(list, entries, scratch, zeros, output, size);
+    say(rt, b"  scratch zero ");
+    say_number(rt, zeros as u64);
+    say(rt, b"\n");
+    say_rest(rt, list, entries, scratch, zeros, output, size);
 }
 
-fn say_answer(answer: Answer) {
+fn say_answer(rt: &impl Print, answer: Answer) {
     let mut line = [0u8; 128];
     let n = report::line_of(answer, &mut line);
-    say(&line[..n]);
+    say(rt, &line[..n]);
 }
 
 fn call(
+    rt: &impl Print,
     mask: &[u8],
     journal: &[u8],
     numbers: &[u8; 24],
@@ -197,20 +204,20 @@ fn call(
     let stated = number(numbers, 1);
     let asked = number(numbers, 2) != 0;
     let answer = filter(mask, journal, states, stated, asked, list, scratch, output);
-    say_answer(answer);
+    say_answer(rt, answer);
     match answer {
         Answer::Done {
             kept: _,
             slots: _,
             route: _,
             bytes,
-        } => say_done(bytes, asked, list, scratch, output),
-        Answer::Refused { number: _, pack: _ } => say_rest(list, 0, scratch, 0, output, 0),
+        } => say_done(rt, bytes, asked, list, scratch, output),
+        Answer::Refused { number: _, pack: _ } => say_rest(rt, list, 0, scratch, 0, output, 0),
     }
 }
 
 // A call with buffers as long as the line says.
-fn lend(mask: &[u8], journal: &[u8], numbers: &[u8; 24]) {
+fn lend(rt: &impl Print, mask: &[u8], journal: &[u8], numbers: &[u8; 24]) {
     let mut list = [BEFORE_ENTRY; LIST_ROOM];
     let mut scratch = [BEFORE; SCRATCH_ROOM];
     let mut output = [BEFORE; OUTPUT_ROOM];
@@ -218,6 +225,7 @@ fn lend(mask: &[u8], journal: &[u8], numbers: &[u8; 24]) {
     let need = at_most(number(numbers, 4), SCRATCH_ROOM);
     let room = at_most(number(numbers, 5), OUTPUT_ROOM);
     call(
+        rt,
         mask,
         journal,
         numbers,
@@ -228,7 +236,7 @@ fn lend(mask: &[u8], journal: &[u8], numbers: &[u8; 24]) {
 }
 
 // The case of a line; gives the place behind it.
-fn case(text: &[u8], from: usize) -> usize
+fn case(rt: &impl Print, text: &[u8], from: usize) -> usize
     requires { from < length text.now }
     ensures { (from < result) × (result ≤ length text.now) }
 {
@@ -236,27 +244,27 @@ fn case(text: &[u8], from: usize) -> usize
     let mut journal = [0u8; PACK_ROOM];
     let mut numbers = [0u8; 24];
     let end = case_text::name_end(text, from + 1);
-    say(&text[from..end]);
-    say(b": ");
+    say(rt, &text[from..end]);
+    say(rt, b": ");
     let m = case_text::read_part(text, end, &mut mask);
     let j = case_text::read_part(text, m.next, &mut journal);
     let n = case_text::read_part(text, j.next, &mut numbers);
     let m_len = m.len;
     let j_len = j.len;
-    lend(&mask[..m_len], &journal[..j_len], &numbers);
+    lend(rt, &mask[..m_len], &journal[..j_len], &numbers);
     n.next
 }
 
 // Every call of a text. Nothing can be promised, since it only prints and the contract of a write says nothing of what is written: what it prints is
 // held to stored answers.
-pub fn run(text: &[u8]) {
+pub fn run(rt: &impl Print, text: &[u8]) {
     let mut at: usize = 0;
     while at < text.len() {
         let c = text[at];
         at = if (c == b'#') | (c == b'\n') {
             case_text::next_line(text, at)
         } else {
-            case(text, at)
+            case(rt, text, at)
         };
     }
 }

@@ -1,9 +1,6 @@
 -- An extract that a call gives fits the output that was lent. Assumes nothing.
-use Prim.Native.Nat.{ℕ, ◌≤◌}
-use mathlib.Core.Path.{◌≡◌, refl}
-use lib.ListN.{length}
+use Rattle.std.proofs.Common.{ℕ, ◌≤◌, ◌≡◌, refl, length, arith}
 use borrow.Author.Tests.{ltb-false}
-use native.Mathlib.Omega.{arith}
 use Rattle.format.specs.declared.Pack.{Pack}
 use Rattle.format.specs.declared.Route.{Route}
 use Rattle.format.specs.declared.Answer.TheVariants.{Done}

@@ -4,7 +4,10 @@
 ghost use Rattle.std.specs.Prelude.{◌≤◌, length};
 
 use format::Answer;
-use libc::STDOUT_FILENO;
+use reading::read_full;
+use std::io::Read;
+use std::rt::Files;
+use std::{fs, io};
 
 // A file may have so many bytes; one more is read, to see that there are more.
 const FILE_LIMIT: usize = 16_384;
@@ -16,47 +19,43 @@ const OUTPUT_ROOM: usize = 32_768;
 
 const SCRATCH_ROOM: usize = 16_384;
 
-// The bytes of a file, as many as `into` holds, at its front; gives how many. A file that cannot be read counts as empty.
-fn load(path: &[u8], into: &mut [u8]) -> usize
+// The bytes of an open file, as many as `into` holds, at its front; gives how many, or none if a read fails.
+fn load_from(file: &mut impl Read, into: &mut [u8]) -> usize
     ensures { result ≤ length into.old }
 {
-    let file = os::open_read(path);
-    if file < 0 {
-        return 0;
-    }
-    let n = io::read_full(file, into);
+    let n = read_full(file, into);
     // `read_full` stops at the end and at an error alike: one more read tells which
     let mut more = [0u8; 1];
-    let rest = libc::read(file, &mut more);
-    libc::close(file);
-    if rest < 0 {
-        return 0;
+    match file.read(&mut more) {
+        Ok(_) => n,
+        Err(_) => 0,
     }
-    n
 }
 
-// The bytes as the file's content; false if not all could be written.
-fn save(path: &[u8], bytes: &[u8]) -> bool {
-    let file = os::open_overwrite(path);
-    if file < 0 {
-        return false;
+// The bytes of a file, as many as `into` holds, at its front; gives how many. A file that cannot be read counts as empty.
+fn load(rt: &impl Files, path: &str, into: &mut [u8]) -> usize
+    ensures { result ≤ length into.old }
+{
+    match fs::open(rt, path) {
+        Ok(mut file) => load_from(&mut file, into),
+        Err(_) => 0,
     }
-    let all = io::write_all(file, bytes);
-    if libc::close(file) < 0 {
-        return false;
-    }
-    all
 }
 
-// The line of an answer, on standard output.
-fn say(answer: Answer) {
+// The bytes as the file's content; an error if not all could be written.
+fn save(rt: &impl Files, path: &str, bytes: &[u8]) -> io::Result<()> {
+    fs::write(rt, path, bytes)
+}
+
+// The line of an answer, on standard output. A write that fails is passed over.
+fn say(rt: &impl Print, answer: Answer) {
     let mut line = [0u8; 128];
     let n = report::line_of(answer, &mut line);
-    io::write_all(STDOUT_FILENO, &line[..n]);
+    let _ = rt.write_all(&line[..n]);
 }
 
 // One call with no list and no stated count: the extract into out.pack if it is not refused, and the line.
-fn run(mask: &[u8], journal: &[u8]) {
+fn run(rt: &(impl Files + Print + Eprint), mask: &[u8], journal: &[u8]) {
     let mut list = [0u32; 1];
     let mut scratch = [0u8; SCRATCH_ROOM];
     let mut output = [0u8; OUTPUT_ROOM];
@@ -78,22 +77,22 @@ fn run(mask: &[u8], journal: &[u8]) {
     } = answer
     {
         let size = bytes as usize;
-        if !save(b"out.pack", &output[..size]) {
-            os::fail(b"out.pack");
+        if let Err(error) = save(rt, "out.pack", &output[..size]) {
+            let _ = eprintln!(rt; "out.pack: {error}");
             return;
         }
     }
-    say(answer);
+    say(rt, answer);
 }
 
-fn main() {
+fn main(rt: HostRuntime) {
     let mut mask = [0u8; FILE_ROOM];
     let mut journal = [0u8; FILE_ROOM];
-    let m = load(b"mask.pack", &mut mask);
-    let j = load(b"journal.pack", &mut journal);
+    let m = load(&rt, "mask.pack", &mut mask);
+    let j = load(&rt, "journal.pack", &mut journal);
     if m > FILE_LIMIT || j > FILE_LIMIT {
-        io::write_all(STDOUT_FILENO, b"too large\n");
+        let _ = rt.write_all(b"too large\n");
         return;
     }
-    run(&mask[..m], &journal[..j]);
+    run(&rt, &mask[..m], &journal[..j]);
 }

@@ -4,47 +4,55 @@
 
 ghost use Rattle.std.specs.Prelude.{◌≤◌, ◌<◌, length};
 
-use libc::STDOUT_FILENO;
+use reading::read_full;
 
 // The most that a line can hold: a pack of 64 nodes, the most that there may be, has 2,576 bytes of table and trailer.
 const PACK_ROOM: usize = 4096;
 
-fn say(text: &[u8]) {
-    io::write_all(STDOUT_FILENO, text);
+// The most that the cases together can hold.
+const TEXT_ROOM: usize = 65_536;
+
+// A write that fails is passed over: what is printed is held to stored lines.
+fn say(rt: &impl Print, text: &[u8]) {
+    let _ = rt.write_all(text);
+}
+
+fn say_number(rt: &impl Print, x: u64) {
+    let _ = rt.print(x);
 }
 
 // The numbers of a pack.
-fn report(pack: &[u8]) {
-    say(b" ");
-    io::print_decimal(STDOUT_FILENO, checker::check(pack));
-    say(b" ");
-    io::print_decimal(STDOUT_FILENO, checker::check_mask(pack));
-    say(b"\n");
+fn report(rt: &impl Print, pack: &[u8]) {
+    say(rt, b" ");
+    say_number(rt, checker::check(pack));
+    say(rt, b" ");
+    say_number(rt, checker::check_mask(pack));
+    say(rt, b"\n");
 }
 
 // The pack of a line; gives the place behind it.
-fn case(text: &[u8], from: usize) -> usize
+fn case(rt: &impl Print, text: &[u8], from: usize) -> usize
     requires { from < length text.now }
     ensures { (from < result) × (result ≤ length text.now) }
 {
     let mut pack = [0u8; PACK_ROOM];
     let end = case_text::name_end(text, from + 1);
-    say(&text[from..end]);
+    say(rt, &text[from..end]);
     let part = case_text::read_part(text, end, &mut pack);
     let len = part.len;
-    report(&pack[..len]);
+    report(rt, &pack[..len]);
     part.next
 }
 
-fn run(text: &[u8]) {
+fn run(rt: &impl Print, text: &[u8]) {
     let mut at: usize = 0;
     while at < text.len() {
-        at = case(text, at);
+        at = case(rt, text, at);
     }
 }
 
-fn main() {
-    let mut text = io::large_buffer();
-    let n = io::read_full(0, &mut text);
-    run(&text[..n]);
+fn main(rt: HostRuntime) {
+    let mut text = [0u8; TEXT_ROOM];
+    let n = read_full(&mut rt.reader(), &mut text);
+    run(&rt, &text[..n]);
 }

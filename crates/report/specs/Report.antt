@@ -1,7 +1,7 @@
 -- The line that the program `extract` prints of an answer, as bytes (docs/FORMAT.md, 10). Assumes nothing.
 use Rattle.std.specs.Prelude.{ℕ, zero, suc, ◌+◌, ◌/◌, ◌%◌, cond, List, [], ◌∷◌, ◌++◌, ltb}
 use Prim.Native.Char.{code}
-use Prim.Native.String.{String, ◌∷◌ as ◌∷ᵗ◌}
+use Prim.Native.String.{String, [] as []ᵗ, ◌∷◌ as ◌∷ᵗ◌}
 use Rattle.format.specs.declared.Route.{Route}
 use Rattle.format.specs.declared.Route.TheVariants.{None, All, Slices, Indices}
 use Rattle.format.specs.declared.Pack.{Pack}
