@@ -1,5 +1,5 @@
 -- An extract read back: when it can be, and what it then says. Assumes nothing.
-use Rattle.std.specs.Prelude.{ℕ, ◌≤◌, ◌<◌, ◌≡◌, Bool, true, List, length, get_or}
+use Rattle.std.specs.Prelude.{ℕ, ◌+◌, ◌≤◌, ◌<◌, ◌≡◌, Bool, true, List, length, get_or}
 use Rattle.format.specs.Bytes.{table, chosen}
 use Rattle.format.specs.Node.{rows}
 use Rattle.format.specs.Verdict.{pack_limit, journal_verdict}
