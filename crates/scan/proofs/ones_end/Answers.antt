@@ -5,7 +5,7 @@ use Rattle.scan.proofs.Scan.{ones-on}
 use Rattle.scan.proofs.ones_end.Goals as goal
 
 pub loop-w-preserved : goal.loop-w-preserved
-loop-w-preserved c = ones-on c.word_in.ensures c.if-word_in.false c.loop-w.invariant (omega arith) (omega arith)
+loop-w-preserved c = ones-on c.word_in.ensures (omega arith) c.loop-w.invariant (omega arith) (omega arith)
 
 pub loop-w-init : goal.loop-w-init
 loop-w-init c = record { low = omega arith; high = c.requires.from_bound; all = all_none (omega arith) }
@@ -15,9 +15,3 @@ overflow_mul-w c = let h = c.loop-w.invariant.high in omega arith
 
 pub overflow_add-w : goal.overflow_add-w
 overflow_add-w c = let h = c.loop-w.invariant.high in omega arith
-
-pub returns-then-word_in : goal.returns-then-word_in
-returns-then-word_in c = c.loop-w.invariant
-
-pub returns : goal.returns
-returns c = c.loop-w.invariant
