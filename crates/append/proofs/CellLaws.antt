@@ -2,47 +2,28 @@
 use Prim.Native.Nat.{ℕ, zero, suc, ◌+◌, ◌-◌, ◌*◌, ◌^◌, ◌%◌, ◌≤◌, ◌<◌}
 use mathlib.Core.Path.{◌≡◌, refl, sym, ap, ◌∙◌}
 use mathlib.Core.List.{List, [], ◌∷◌, ◌++◌, map, append-nil, append_assoc}
-use native.Mathlib.Nat.{le_refl, add-zero, mul-add, add-sub_of_le, mul-le-mul_left, mul-zero, mul-suc}
+use native.Mathlib.Nat.{mul-add, add-sub_of_le, mul-le-mul_left, mul-zero, mul-suc}
 use native.Mathlib.Omega.{arith}
-use lib.Bits.{bit_and, and_le_l}
-use lib.Count.{count_trailing_zeros}
-use lib.ListN.{length, drop, get_or, length-replicate, drop_of_length-le}
+use native.Mathlib.Numerals.{add-one}
+use lib.ListN.{length, drop, get_or, length-replicate}
 use lib.Seq.{drop-cons}
 use Rattle.format.specs.Bytes.{join, to_le, bytes_at, raised, padded}
 use Rattle.format.specs.Write.{numbers}
-use Rattle.format.specs.Rows.{set_rows}
+use Rattle.format.specs.Rows.{set_rows, Below}
 use Rattle.format.specs.Slots.{count_up}
 use Rattle.format.proofs.Numbers.{numbers-cons, bytes-none, bytes_same, bytes-join, length-bytes}
-use Rattle.format.proofs.WordLaws.{less_one, clear-lt}
-use Rattle.format.proofs.RowLaws.{set-none, set_more, list-more, below-first, below-others, below_left, below_right}
+use Rattle.format.proofs.RowLaws.{below-first, below-others, below_wider, below_left, below_right}
 use Rattle.format.specs.Put.{Wrote}
 use Rattle.format.proofs.Put.{Left, whole, less, done, room}
 use Rattle.append.specs.Cells.{zeros, padding, entry, entries_of, word_rows, Among, Entries}
 
 -- ---- numbers
 
-pub to_le-same : (w v n : ℕ) → w ≡ v → to_le w n ≡ to_le v n
-to_le-same w v n e = ap (λ (k : ℕ). to_le k n) e
-
 -- the numbers of a list from index i on
-pub numbers_more : (w : ℕ) (ns : List ℕ) (i j : ℕ) → i < length ns → j ≡ i + 1
-    → numbers w (bytes_at ns i (length ns - i)) ≡ to_le w (get_or ns i 0) ++ numbers w (bytes_at ns j (length ns - j))
-numbers_more w ns i j h e = ap (numbers w) (list-more ns (length ns) i j h (le_refl (length ns)) e) ∙ numbers-cons w _ _
+pub numbers_more : (w : ℕ) (ns : List ℕ) (i : ℕ) → i < length ns → numbers w (drop i ns) ≡ to_le w (get_or ns i 0) ++ numbers w (drop (i + 1) ns)
+numbers_more w ns i h = rw (add-one, drop-cons ns i 0 h) (numbers-cons w _ _)
 
 -- ---- zeros
-
-pub zeros-same : (n m : ℕ) → n ≡ m → zeros n ≡ zeros m
-zeros-same n m e = ap zeros e
-
-pub zeros-none : (n : ℕ) → n ≡ 0 → zeros n ≡ []
-unfolding zeros
-zeros-none n e = ap zeros e
-
-pub zeros-more : (n m : ℕ) → n ≡ m + 1 → zeros n ≡ 0 ∷ zeros m
-unfolding zeros
-zeros-more n m e =
-    let e' : n ≡ suc m = omega arith in
-    ap zeros e'
 
 pub length-zeros : (n : ℕ) → length (zeros n) ≡ n
 unfolding zeros
@@ -151,126 +132,48 @@ entries-run w b first (suc n) a =
 pub run_fits : {w : ℕ} {b : List ℕ} {first n : ℕ} (e : ℕ) → e ≤ n → Entries w b first n → first + w * e ≤ length b
 run_fits {w} e l h = omega (arith, h.inside, mul-le-mul_left w l)
 
--- ---- loops over rows
+-- ---- loops over rows: f are the bytes that rows give
 
--- of the entries of rows rs, those of rows ts are left to write
-pub record Entering (w : ℕ) (b : List ℕ) (first : ℕ) (rs old : List ℕ) (at : ℕ) (new : List ℕ) (here : ℕ) (ts : List ℕ) : Type 0 where
-  pub among : Among (Entries w b first) ts
-  pub left : Left old at (entries_of w b first rs) new here (entries_of w b first ts)
+-- of the bytes of rows rs, those of rows ts are left to write
+pub record RowsLeft (P : ℕ → Type 0) (f : List ℕ → List ℕ) (rs old : List ℕ) (at : ℕ) (new : List ℕ) (here : ℕ) (ts : List ℕ) : Type 0 where
+  pub among : Among P ts
+  pub left : Left old at (f rs) new here (f ts)
 
-module _ {w : ℕ} {b : List ℕ} {first : ℕ} {rs old : List ℕ} {at : ℕ} {new : List ℕ} {here : ℕ} {ts : List ℕ} (g : Entering w b first rs old at new here ts) where
+-- none are written yet
+pub rows-all : {P : ℕ → Type 0} {f : List ℕ → List ℕ} {rs ts old : List ℕ} {at : ℕ} → Among P rs → ts ≡ rs → RowsLeft P f rs old at old at ts
+rows-all {f = f} a e = record { among = rw e a; left = whole refl (ap f e) }
+
+module _ {P : ℕ → Type 0} {f : List ℕ → List ℕ} {rs old : List ℕ} {at : ℕ} {new : List ℕ} {here : ℕ} {ts : List ℕ} (g : RowsLeft P f rs old at new here ts) where
+  -- there is room for the first part of them
+  module _ (xs ys : List ℕ) (e : ts ≡ xs ++ ys) (joins : f (xs ++ ys) ≡ f xs ++ f ys) where
+    pub part-needs : at + length (f rs) ≤ length old → Among P xs × (here + length (f xs) ≤ length new)
+    part-needs fit = (among-left xs ys g.among e, room (f xs) (f ys) g.left (ap f e ∙ joins) fit)
+
+    -- which was written
+    pub part-more : {last : List ℕ} {to : ℕ} → Wrote new here (f xs) last to → RowsLeft P f rs old at last to ys
+    part-more q = record { among = among-right xs ys g.among e; left = less g.left (ap f e ∙ joins) q }
+
+  pub rows-done : f ts ≡ [] → Wrote old at (f rs) new here
+  rows-done e = done g.left e refl
+
+-- entries of w bytes
+abbrev pub Entering : ℕ → List ℕ → ℕ → List ℕ → List ℕ → ℕ → List ℕ → ℕ → List ℕ → Type 0
+Entering w b first = RowsLeft (Entries w b first) (entries_of w b first)
+
+-- each row, and the one behind it, is a number
+pub entries-number : {w : ℕ} {b : List ℕ} {first : ℕ} {rs : List ℕ} → Among (Entries w b first) rs → Below (2 ^ 64 - 1) rs
+entries-number a = below_wider (omega (arith, a.holds.small)) a.below
+
+module _ {w : ℕ} {b : List ℕ} {first : ℕ} {rs old : List ℕ} {at : ℕ} {new : List ℕ} {here : ℕ} {ts us : List ℕ} {r : ℕ} (g : Entering w b first rs old at new here ts) (e : ts ≡ r ∷ us) where
   -- the first of them lies in the buffer and fits
-  module _ {us : List ℕ} {r : ℕ} (e : ts ≡ r ∷ us) where
-    pub entry_row : r < 2 ^ 64
-    entry_row = omega (arith, among_first g.among e, g.among.holds.small)
+  pub entry-fits : first + w * r + w ≤ length b
+  entry-fits = omega (arith, mul-suc w r, mul-le-mul_left w (among_first g.among e), g.among.holds.inside)
 
-    pub entry-fits : first + w * r + w ≤ length b
-    entry-fits = omega (arith, mul-suc w r, mul-le-mul_left w (among_first g.among e), g.among.holds.inside)
+  pub entry-needs : at + length (entries_of w b first rs) ≤ length old → (here + w ≤ length new) × (first + w * r + w ≤ length b)
+  entry-needs fit =
+      let all = room (bytes_at b (first + w * r) w) (entries_of w b first us) g.left (entries-more w b first e) fit in
+      (rw (length-bytes b (first + w * r) w entry-fits) at all, entry-fits)
 
-    pub entry-needs : at + length (entries_of w b first rs) ≤ length old → (here + w ≤ length new) × (first + w * r + w ≤ length b)
-    entry-needs fit =
-        let all = room (bytes_at b (first + w * r) w) (entries_of w b first us) g.left (entries-more w b first e) fit in
-        (rw (length-bytes b (first + w * r) w entry-fits) at all, entry-fits)
-
-    -- and was written
-    pub entry_more : {last : List ℕ} {to : ℕ} → Wrote new here (bytes_at b (first + w * r) w) last to → Entering w b first rs old at last to us
-    entry_more q = record { among = among-others g.among e; left = less g.left (entries-more w b first e) q }
-
-  -- so with the first part of them
-  module _ (xs ys : List ℕ) (e : ts ≡ xs ++ ys) where
-    parts : entries_of w b first ts ≡ entries_of w b first xs ++ entries_of w b first ys
-    parts = ap (entries_of w b first) e ∙ entries-append w b first xs ys
-
-    pub part-needs : at + length (entries_of w b first rs) ≤ length old → Among (Entries w b first) xs × (here + length (entries_of w b first xs) ≤ length new)
-    part-needs fit = (among-left xs ys g.among e, room (entries_of w b first xs) (entries_of w b first ys) g.left parts fit)
-
-    pub part-more : {last : List ℕ} {to : ℕ} → Wrote new here (entries_of w b first xs) last to → Entering w b first rs old at last to ys
-    part-more q = record { among = among-right xs ys g.among e; left = less g.left parts q }
-
-  pub entry_done : ts ≡ [] → Wrote old at (entries_of w b first rs) new here
-  entry_done e = done g.left (entries_none w b first ts e) refl
-
--- the rows at the set bits of a word, those left at the bits of x
-pub record Picking (w : ℕ) (b : List ℕ) (first base word : ℕ) (old : List ℕ) (at : ℕ) (new : List ℕ) (here x : ℕ) : Type 0 where
-  pub small : x < 2 ^ 64
-  pub entering : Entering w b first (set_rows base word) old at new here (set_rows base x)
-
-module _ {w : ℕ} {b : List ℕ} {first base word : ℕ} {old : List ℕ} {at : ℕ} where
-  pub pick_all : word < 2 ^ 64 → Among (Entries w b first) (set_rows base word) → Picking w b first base word old at old at word
-  pick_all h a = record { small = h; entering = record { among = a; left = whole refl refl } }
-
-  module _ {new : List ℕ} {here x : ℕ} (g : Picking w b first base word old at new here x) where
-    module _ (p : 0 < x) where
-      lowest : set_rows base x ≡ (base + count_trailing_zeros 64 x) ∷ set_rows base (bit_and x (x - 1))
-      lowest = set_more base x p g.small
-
-      pub pick-row : base + count_trailing_zeros 64 x < 2 ^ 64
-      pick-row = entry_row g.entering lowest
-
-      pub pick-fits : first + w * (base + count_trailing_zeros 64 x) + w ≤ length b
-      pick-fits = entry-fits g.entering lowest
-
-      pub pick-needs : at + length (entries_of w b first (set_rows base word)) ≤ length old → (here + w ≤ length new) × (first + w * (base + count_trailing_zeros 64 x) + w ≤ length b)
-      pick-needs = entry-needs g.entering lowest
-
-      -- y is x less 1, by a difference that wraps
-      module _ {y : ℕ} (s : (y + 1) % 2 ^ 64 ≡ x) (h : y < 2 ^ 64) where
-        pub pick_less : bit_and x y < x
-        pick_less = rw (less_one x y s h p) (clear-lt x p)
-
-        pub pick_more : {last : List ℕ} {to : ℕ} → Wrote new here (bytes_at b (first + w * (base + count_trailing_zeros 64 x)) w) last to → Picking w b first base word old at last to (bit_and x y)
-        pick_more q =
-            let low = and_le_l x y in
-            let small = g.small in
-            record { small = omega arith; entering = rw (less_one x y s h p) (entry_more g.entering lowest q) }
-
-    pub pick-done : x ≡ 0 → Wrote old at (entries_of w b first (set_rows base word)) new here
-    pick-done e = entry_done g.entering (set-none base x e)
-
--- the rows that entries i to j of a list name, those left from entry k on
-pub record Listing (w : ℕ) (b : List ℕ) (first : ℕ) (list : List ℕ) (i j : ℕ) (old : List ℕ) (at : ℕ) (new : List ℕ) (here k : ℕ) : Type 0 where
-  pub low : k ≤ j
-  pub high : j ≤ length list
-  pub entering : Entering w b first (bytes_at list i (j - i)) old at new here (bytes_at list k (j - k))
-
-module _ {w : ℕ} {b : List ℕ} {first : ℕ} {list : List ℕ} {i j : ℕ} {old : List ℕ} {at : ℕ} where
-  pub list_all : (i ≤ j) × (j ≤ length list) → Among (Entries w b first) (bytes_at list i (j - i)) → Listing w b first list i j old at old at i
-  list_all h a = record { low = h.0; high = h.1; entering = record { among = a; left = whole refl refl } }
-
-  module _ {new : List ℕ} {here k : ℕ} (g : Listing w b first list i j old at new here k) where
-    module _ (l : k < j) where
-      named : bytes_at list k (j - k) ≡ get_or list k 0 ∷ bytes_at list (k + 1) (j - (k + 1))
-      named = list-more list j k (k + 1) l g.high refl
-
-      pub list-fits : first + w * get_or list k 0 + w ≤ length b
-      list-fits = entry-fits g.entering named
-
-      pub list-needs : at + length (entries_of w b first (bytes_at list i (j - i))) ≤ length old → (here + w ≤ length new) × (first + w * get_or list k 0 + w ≤ length b)
-      list-needs = entry-needs g.entering named
-
-      pub list-next : {last : List ℕ} {to : ℕ} → Wrote new here (bytes_at b (first + w * get_or list k 0) w) last to → Listing w b first list i j old at last to (k + 1)
-      list-next q = record { low = omega arith; high = g.high; entering = entry_more g.entering named q }
-
-    pub list_done : j ≤ k → Wrote old at (entries_of w b first (bytes_at list i (j - i))) new here
-    list_done h = entry_done g.entering (bytes-none _ _ _ (omega arith))
-
--- the rows at the set bits of words xs, those left of the words from k on
-pub record Gathering (w : ℕ) (b : List ℕ) (first base : ℕ) (xs old : List ℕ) (at : ℕ) (new : List ℕ) (here k : ℕ) : Type 0 where
-  pub high : k ≤ length xs
-  pub entering : Entering w b first (word_rows base xs) old at new here (word_rows (base + 64 * k) (drop k xs))
-
-module _ {w : ℕ} {b : List ℕ} {first base : ℕ} {xs old : List ℕ} {at : ℕ} where
-  pub gather-all : Among (Entries w b first) (word_rows base xs) → Gathering w b first base xs old at old at 0
-  gather-all a = record { high = omega arith; entering = record { among = rw add-zero a; left = whole refl (rw add-zero) } }
-
-  module _ {new : List ℕ} {here k : ℕ} (g : Gathering w b first base xs old at new here k) where
-    module _ (l : k < length xs) where
-      pub gather-needs : at + length (entries_of w b first (word_rows base xs)) ≤ length old
-          → Among (Entries w b first) (set_rows (base + 64 * k) (get_or xs k 0)) × (here + length (entries_of w b first (set_rows (base + 64 * k) (get_or xs k 0))) ≤ length new)
-      gather-needs = part-needs g.entering _ _ (words_more base xs k (k + 1) l refl)
-
-      pub gather-more : {last : List ℕ} {to : ℕ} → Wrote new here (entries_of w b first (set_rows (base + 64 * k) (get_or xs k 0))) last to → Gathering w b first base xs old at last to (k + 1)
-      gather-more q = record { high = omega arith; entering = part-more g.entering _ _ (words_more base xs k (k + 1) l refl) q }
-
-    pub gather-done : length xs ≤ k → Wrote old at (entries_of w b first (word_rows base xs)) new here
-    gather-done h = entry_done g.entering (words-none _ _ (drop_of_length-le xs {i = k} h))
+  -- and was written
+  pub entry_more : {last : List ℕ} {to : ℕ} → Wrote new here (bytes_at b (first + w * r) w) last to → Entering w b first rs old at last to us
+  entry_more q = record { among = among-others g.among e; left = less g.left (entries-more w b first e) q }

@@ -1,2 +1,3 @@
 -- The byte strings that the writers' contracts name.
 pub mod Cells
+pub mod Ranges

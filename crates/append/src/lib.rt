@@ -2,3 +2,4 @@
 #![tactic(auto)]
 
 pub mod fields;
+pub mod rows;

@@ -1,5 +1,5 @@
 -- A bitmap column block by block: what is packed and what is left make up the column. Assumes nothing.
-use Prim.Native.Nat.{ℕ, ◌+◌, ◌*◌, ◌/◌, ◌≤◌}
+use Prim.Native.Nat.{ℕ, ◌+◌, ◌≤◌}
 use mathlib.Core.Path.{◌≡◌, sym, ap, ◌∙◌}
 use mathlib.Core.Bool.{Bool, false}
 use mathlib.Core.List.{List, [], ◌++◌, map, map-append, append_assoc, append-nil}
@@ -15,23 +15,23 @@ use Rattle.predicate.specs.declared.Selection.{Selection}
 use Rattle.predicate.specs.Selection.{picks_on}
 use Rattle.predicate.specs.Blocks.{Gives}
 use Rattle.bitmaps.specs.declared.Bitmap.{Bitmap}
-use Rattle.bitmaps.specs.Push.{Packs, Adds}
-use Rattle.bitmaps.proofs.PushLaws.{packs-none, packs-room}
+use Rattle.bitmaps.specs.Push.{Room, Packs, Adds}
+use Rattle.bitmaps.proofs.PushLaws.{packs-room}
 
 -- of the bits q of the rows all, those of the rows left are still to be packed
-pub record Walked (q : ℕ → Bool) (all : List ℕ) (old : List ℕ) (at : ℕ) (new : List ℕ) (to : Bitmap) (left : List ℕ) : Type 0 where
+pub record Walked (q : ℕ → Bool) (all : List ℕ) (old : List ℕ) (at : ℕ) (to : Bitmap) (left : List ℕ) : Type 0 where
   pub done : List Bool
-  pub packs : Packs done old at new to
+  pub packs : Packs done old at to
   pub rest : done ++ map q left ≡ map q all
 
 module _ {q : ℕ → Bool} {all old : List ℕ} {at : ℕ} where
-  pub walk_none : {left : List ℕ} → left ≡ all → Walked q all old at old (record { here = at; packer = record { current = 0; filled = 0 } }) left
-  walk_none e = record { done = []; packs = packs-none; rest = ap (map q) e }
+  pub walk_none : {to : Bitmap} {left : List ℕ} → Packs [] old at to → left ≡ all → Walked q all old at to left
+  walk_none p e = record { done = []; packs = p; rest = ap (map q) e }
 
-  module _ {mid : List ℕ} {from : Bitmap} {p : ℕ → Bool} {len place : ℕ} (w : Walked q all old at mid from (picks_on p len place)) where
+  module _ {from : Bitmap} {p : ℕ → Bool} {len place : ℕ} (w : Walked q all old at from (picks_on p len place)) where
     -- a block's rows were added
-    pub walk_more : {sel : Selection} {list xs new : List ℕ} {d : Cursor} {to : Bitmap} → Gives sel p len list place xs d → Adds (map q xs) mid from new to
-        → Walked q all old at new to (picks_on p len d.place)
+    pub walk_more : {sel : Selection} {list xs : List ℕ} {d : Cursor} {to : Bitmap} → Gives sel p len list place xs d → Adds (map q xs) from to
+        → Walked q all old at to (picks_on p len d.place)
     walk_more {xs = xs} {d = d} g a = record {
       done = w.done ++ map q xs;
       packs = a.more w.packs;
@@ -42,8 +42,7 @@ module _ {q : ℕ → Bool} {all old : List ℕ} {at : ℕ} where
     }
 
     -- they fit
-    pub walk-room : {sel : Selection} {list xs : List ℕ} {d : Cursor} (n : ℕ) → Gives sel p len list place xs d → n ≡ length xs → at + length (packed (map q all)) ≤ length old
-        → from.here + 8 * ((from.packer.filled + n) / 64) ≤ length mid
+    pub walk-room : {sel : Selection} {list xs : List ℕ} {d : Cursor} (n : ℕ) → Gives sel p len list place xs d → n ≡ length xs → at + length (packed (map q all)) ≤ length old → Room from n
     walk-room {xs = xs} {d = d} n g k fit =
         let size = length-packed (map q all) in
         let sum = ap length (sym w.rest) ∙ length-append w.done (map q (picks_on p len place)) ∙ ap (length w.done +◌) (length-map (picks_on p len place) q) in
@@ -51,7 +50,7 @@ module _ {q : ℕ → Bool} {all old : List ℕ} {at : ℕ} where
         packs-room w.packs n (length (map q all)) (omega arith) (rw (← size) fit)
 
   -- none is left
-  pub walk-done : {mid : List ℕ} {from : Bitmap} {left : List ℕ} → Walked q all old at mid from left → left ≡ [] → Packs (map q all) old at mid from
+  pub walk-done : {from : Bitmap} {left : List ℕ} → Walked q all old at from left → left ≡ [] → Packs (map q all) old at from
   walk-done w e = rw (sym (append-nil w.done) ∙ ap (λ (l : List ℕ). w.done ++ map q l) (sym e) ∙ w.rest) at w.packs
 
 -- where nothing is kept no bit is written

@@ -1,5 +1,5 @@
 -- A bitmap column word by word: what a turn pushes, and that it fits. Assumes nothing.
-use Prim.Native.Nat.{ℕ, suc, ◌+◌, ◌-◌, ◌*◌, ◌/◌, ◌≤◌, ◌<◌}
+use Prim.Native.Nat.{ℕ, suc, ◌+◌, ◌-◌, ◌*◌, ◌≤◌, ◌<◌}
 use mathlib.Core.Path.{◌≡◌, refl, sym, ap, ◌∙◌}
 use mathlib.Core.Bool.{Bool}
 use mathlib.Core.List.{List, [], ◌∷◌, ◌++◌, map, map-append, append-nil, append_assoc}
@@ -7,9 +7,9 @@ use mathlib.Core.Logic.{dite}
 use native.Mathlib.Nat.{zero-add}
 use native.Mathlib.Decide.{dec_le}
 use native.Mathlib.Omega.{arith}
-use lib.ListN.{length, get_or, take, drop, length-append, length-map, length-take, length-drop}
-use lib.Seq.{take-suc, get_or-drop}
-use Rattle.format.specs.Bytes.{bit_in, bytes_at, packed}
+use lib.ListN.{length, get_or, take, length-append, length-map, length-take}
+use lib.Seq.{take-suc}
+use Rattle.format.specs.Bytes.{bit_in, packed}
 use Rattle.format.specs.Slots.{word_from, picks_from, count_up}
 use Rattle.format.specs.Rows.{set_rows}
 use Rattle.format.specs.Words.{low_bits, gather}
@@ -17,16 +17,14 @@ use Rattle.format.proofs.SlotLaws.{picks-cat, picks-none, count-cat, up-cat, slo
 use Rattle.format.proofs.RowLaws.{set-from, set-none}
 use Rattle.format.proofs.WordLaws.{from-shift, low-from, low-slots, gather-map}
 use Rattle.format.proofs.Measure.{length-packed}
-use Rattle.bits.specs.Pack.{Packed, waiting}
-use Rattle.bits.specs.declared.Packer.{Packer}
 use Rattle.slots.specs.Source.{slot_of, word_at}
 use Rattle.slots.specs.declared.Bits.{Bits}
 use Rattle.slots.proofs.Reading.{slots-picks}
 use Rattle.scan.specs.Asked.{Blank}
 use Rattle.words.specs.Run.{LowestRun}
 use Rattle.bitmaps.specs.declared.Bitmap.{Bitmap}
-use Rattle.bitmaps.specs.Push.{Packs, Pushes, Adds, bit_from}
-use Rattle.bitmaps.proofs.PushLaws.{packs-room, adds_none, adds_then, adds-push, adds-room}
+use Rattle.bitmaps.specs.Push.{Room, Packs, Adds, bit_from}
+use Rattle.bitmaps.proofs.PushLaws.{packs-room, adds_none, adds_then, adds-room}
 
 -- the bits of the picked rows of the first n slots
 unfoldable pub taken : List ℕ → ℕ → List ℕ → Bits → ℕ → List Bool
@@ -63,8 +61,8 @@ module _ (b : List ℕ) (from : ℕ) (s : List ℕ) (m : Bits) where
           let cat = rw sum at (count-cat (slot_of s m) k (m.len - k) 0) in
           omega arith
 
-  pub word_room : {old : List ℕ} {at : ℕ} {mid : List ℕ} {to : Bitmap} (w x : ℕ) → x ≡ word_at s m w → Packs (taken b from s m (64 * w)) old at mid to
-      → at + length (packed (taken b from s m m.len)) ≤ length old → to.here + 8 * ((to.packer.filled + length (set_rows (64 * w) x)) / 64) ≤ length mid
+  pub word_room : {old : List ℕ} {at : ℕ} {to : Bitmap} (w x : ℕ) → x ≡ word_at s m w → Packs (taken b from s m (64 * w)) old at to
+      → at + length (packed (taken b from s m m.len)) ≤ length old → Room to (length (set_rows (64 * w) x))
   word_room w x ex p fit =
       let whole = length-packed (taken b from s m m.len) in
       let rows = length-map (set_rows (64 * w) x) (bit_from b from) in
@@ -80,9 +78,9 @@ module _ (b : List ℕ) (from : ℕ) (s : List ℕ) (m : Bits) where
 
 module _ (b : List ℕ) (from : ℕ) where
   -- n rows from row i on
-  pub run-bits : (p : Packer) (i v n : ℕ) → v ≡ word_from (bit_in b) 64 (from + i) → n ≤ 64 → waiting p ++ low_bits n v ≡ waiting p ++ map (bit_from b from) (count_up n i)
+  pub run-bits : (i v n : ℕ) → v ≡ word_from (bit_in b) 64 (from + i) → n ≤ 64 → low_bits n v ≡ map (bit_from b from) (count_up n i)
   unfolding bit_from
-  run-bits p i v n e l = rw (e, from-shift) (ap (waiting p ++◌) (low-slots (bit_from b from) n 64 i l ∙ slots-up (bit_from b from) n i))
+  run-bits i v n e l = rw (e, from-shift) (low-slots (bit_from b from) n 64 i l ∙ slots-up (bit_from b from) n i)
 
   -- the rows of a word's set bits
   pub set-bits : (base v x : ℕ) → v ≡ word_from (bit_in b) 64 (from + base) → gather (low_bits 64 x) (low_bits 64 v) ≡ map (bit_from b from) (set_rows base x)
@@ -90,70 +88,59 @@ module _ (b : List ℕ) (from : ℕ) where
   set-bits base v x e =
       rw (e, from-shift, low-from (bit_from b from) 64 base, slots-up (bit_from b from) 64 base, gather-map (bit_from b from) (low_bits 64 x) (count_up 64 base))
 
-  -- the rows passed, and n more
-  pub run_more : (a i j n : ℕ) → a ≤ i → j ≡ i + n → map (bit_from b from) (count_up (j - a) a) ≡ map (bit_from b from) (count_up (i - a) a) ++ map (bit_from b from) (count_up n i)
-  run_more a i j n l e =
-      let sum : j - a ≡ (i - a) + n = omega arith in
-      let next : a + (i - a) ≡ i = omega arith in
-      rw (sum, up-cat, next) (map-append (bit_from b from) (count_up (i - a) a) (count_up n i))
+  -- rows from row i on, and more behind them
+  pub run_more : (i n m all j : ℕ) → all ≡ n + m → j ≡ i + n → map (bit_from b from) (count_up all i) ≡ map (bit_from b from) (count_up n i) ++ map (bit_from b from) (count_up m j)
+  run_more i n m all j e f = rw (e, f, up-cat) (map-append (bit_from b from) (count_up n i) (count_up m (i + n)))
 
   pub run-size : (n i : ℕ) → length (map (bit_from b from) (count_up n i)) ≡ n
   run-size n i = rw (length-map, length_up)
 
 -- where a word has one run, its rows are those of the run
-pub one-run : {word from to rest : ℕ} → LowestRun word from to rest → rest ≡ 0 → (base : ℕ) → set_rows base word ≡ count_up (to - from) (base + from)
-one-run {rest = rest} r z base = r.rows base ∙ rw (set-none base rest z) (append-nil _)
+pub one-run : {base word from to rest : ℕ} → LowestRun base word from to rest → rest ≡ 0 → set_rows base word ≡ count_up (to - from) from
+one-run {base} {rest = rest} r z = r.rows ∙ rw (set-none base rest z) (append-nil _)
 
 -- of the bits of a word's rows, those of the set bits of `rest` are still to be added
-pub record Worded (b : List ℕ) (from base word : ℕ) (old : List ℕ) (start : Bitmap) (new : List ℕ) (to : Bitmap) (rest : ℕ) : Type 0 where
+pub record Worded (b : List ℕ) (from base word : ℕ) (start to : Bitmap) (rest : ℕ) : Type 0 where
   pub done : List Bool
-  pub adds : Adds done old start new to
+  pub adds : Adds done start to
   pub left : map (bit_from b from) (set_rows base word) ≡ done ++ map (bit_from b from) (set_rows base rest)
 
-module _ {b : List ℕ} {from base word : ℕ} {old : List ℕ} {start : Bitmap} where
-  pub word_none : Packed start.packer → Worded b from base word old start old start word
-  word_none ok = record { done = []; adds = adds_none ok; left = refl }
+module _ {b : List ℕ} {from base word : ℕ} {start : Bitmap} where
+  pub word_none : Worded b from base word start start word
+  word_none = record { done = []; adds = adds_none; left = refl }
 
-  module _ {new : List ℕ} {to : Bitmap} {rest : ℕ} (h : Worded b from base word old start new to rest) where
-    pub word-done : rest ≡ 0 → Adds (map (bit_from b from) (set_rows base word)) old start new to
+  module _ {to : Bitmap} {rest : ℕ} (h : Worded b from base word start to rest) where
+    pub word-done : rest ≡ 0 → Adds (map (bit_from b from) (set_rows base word)) start to
     word-done z = rw (h.left, set-none base rest z, append-nil) h.adds
 
     -- its lowest run is added
-    module _ {a e others : ℕ} (run : LowestRun rest a e others) where
-      run-off : map (bit_from b from) (set_rows base rest) ≡ map (bit_from b from) (count_up (e - a) (base + a)) ++ map (bit_from b from) (set_rows base others)
-      run-off = rw (run.rows base) (map-append (bit_from b from) (count_up (e - a) (base + a)) (set_rows base others))
+    module _ {a e others : ℕ} (run : LowestRun base rest a e others) where
+      run-off : map (bit_from b from) (set_rows base rest) ≡ map (bit_from b from) (count_up (e - a) a) ++ map (bit_from b from) (set_rows base others)
+      run-off = rw run.rows (map-append (bit_from b from) (count_up (e - a) a) (set_rows base others))
 
-      pub word_fits : start.here + 8 * ((start.packer.filled + length (set_rows base word)) / 64) ≤ length old
-          → to.here + 8 * ((to.packer.filled + (e - a)) / 64) ≤ length new
+      pub word_fits : Room start (length (set_rows base word)) → Room to (e - a)
       word_fits fit =
           let all = sym (length-map (set_rows base word) (bit_from b from)) ∙ ap length h.left ∙ length-append h.done _ in
-          let parts = ap length run-off ∙ length-append (map (bit_from b from) (count_up (e - a) (base + a))) _ in
-          adds-room (length (set_rows base word)) (e - a) h.adds (omega (arith, all, parts, run-size b from (e - a) (base + a))) fit
+          let parts = ap length run-off ∙ length-append (map (bit_from b from) (count_up (e - a) a)) _ in
+          adds-room (length (set_rows base word)) (e - a) h.adds (omega (arith, all, parts, run-size b from (e - a) a)) fit
 
-      pub word_more : {v : ℕ} {out : List ℕ} {next : Bitmap} → v ≡ word_from (bit_in b) 64 (from + (base + a))
-          → Pushes (waiting to.packer ++ low_bits (e - a) v) new to out next → Worded b from base word old start out next others
+      pub word_more : {v : ℕ} {next : Bitmap} → v ≡ word_from (bit_in b) 64 (from + a) → Adds (low_bits (e - a) v) to next
+          → Worded b from base word start next others
       word_more {v} ev p =
-          let n = e - a in
-          let size = run-size b from n (base + a) in
-          let vs = run-bits b from to.packer (base + a) v n ev (omega (arith, run.high)) in
+          let bits = run-bits b from a v (e - a) ev (omega (arith, run.low, run.high)) in
           record {
-            done = h.done ++ map (bit_from b from) (count_up n (base + a));
-            adds = adds_then h.adds (adds-push h.adds.packed vs (omega (arith, run.high)) p);
-            left = h.left ∙ rw run-off (sym (append_assoc h.done (map (bit_from b from) (count_up n (base + a))) (map (bit_from b from) (set_rows base others))));
+            done = h.done ++ map (bit_from b from) (count_up (e - a) a);
+            adds = adds_then h.adds (rw bits at p);
+            left = h.left ∙ rw run-off (sym (append_assoc h.done (map (bit_from b from) (count_up (e - a) a)) (map (bit_from b from) (set_rows base others))));
           }
 
--- the rows of a list's entries i to k, and one entry more
-pub listed_more : (b : List ℕ) (from : ℕ) (list : List ℕ) (i k : ℕ) → i ≤ k → k < length list
-    → map (bit_from b from) (bytes_at list i (k + 1 - i)) ≡ map (bit_from b from) (bytes_at list i (k - i)) ++ map (bit_from b from) (count_up 1 (get_or list k 0))
-unfolding bytes_at count_up
-listed_more b from list i k l h =
-    let one : k + 1 - i ≡ suc (k - i) = omega arith in
-    let at : i + (k - i) ≡ k = omega arith in
-    let room : k - i < length (drop i list) = rw length-drop (omega arith) in
-    let step : take (suc (k - i)) (drop i list) ≡ take (k - i) (drop i list) ++ (get_or list k 0 ∷ []) =
-    take-suc (drop i list) (k - i) 0 room ∙ rw (get_or-drop, at) in
-    rw (one, step) (map-append (bit_from b from) (take (k - i) (drop i list)) (get_or list k 0 ∷ []))
+-- the rows of the first k entries of a list, and one entry more
+pub listed_more : (b : List ℕ) (from : ℕ) (rows : List ℕ) (k : ℕ) → k < length rows
+    → map (bit_from b from) (take (k + 1) rows) ≡ map (bit_from b from) (take k rows) ++ map (bit_from b from) (count_up 1 (get_or rows k 0))
+unfolding count_up
+listed_more b from rows k h =
+    let one : k + 1 ≡ suc k = omega arith in
+    rw (one, take-suc rows k 0 h) (map-append (bit_from b from) (take k rows) (get_or rows k 0 ∷ []))
 
-pub listed-size : (b : List ℕ) (from : ℕ) (list : List ℕ) (i n : ℕ) → i + n ≤ length list → length (map (bit_from b from) (bytes_at list i n)) ≡ n
-unfolding bytes_at
-listed-size b from list i n h = rw (length-map, length-take, length-drop) (omega arith)
+pub listed-size : (b : List ℕ) (from : ℕ) (rows : List ℕ) (k : ℕ) → k ≤ length rows → length (map (bit_from b from) (take k rows)) ≡ k
+listed-size b from rows k h = rw (length-map, length-take) (omega arith)

@@ -1,4 +1,4 @@
--- The loop of `compress_by`: what a mask gathers, by fours from the highest, and where the fours' entries stand in the tables. Assumes nothing.
+-- The loop of `compress`: what a mask gathers, by fours from the highest, and where the fours' entries stand in the tables. Assumes nothing.
 use Prim.Native.Nat.{ℕ, zero, suc, ◌+◌, ◌-◌, ◌*◌, ◌/◌, ◌%◌, ◌^◌, ◌≤◌, ◌<◌}
 use mathlib.Core.List.{List}
 use mathlib.Core.Path.{◌≡◌, refl, sym, ap, ◌∙◌}
@@ -103,40 +103,32 @@ patterns (suc (suc (suc (suc (suc (suc (suc (suc i)))))))) l = absurd (omega ari
 abbrev pub place_at : ℕ → ℕ → ℕ → ℕ
 place_at value mask at = 16 * (mask / 2 ^ at % 16) + value / 2 ^ at % 16
 
-module _ (value mask at : ℕ) (whole : at % 8 ≡ 0) (l : at ≤ 56) where
-  whole_is : at ≡ 8 * (at / 8)
-  whole_is = omega arith
-
-  pattern-high : high-fours / 2 ^ at % 2 ^ 8 ≡ 240
-  pattern-high = ap (λ (k : ℕ). high-fours / 2 ^ k % 2 ^ 8) whole_is ∙ (patterns (at / 8) (omega arith)).0
-
-  pattern-low : low-fours / 2 ^ at % 2 ^ 8 ≡ 15
-  pattern-low = ap (λ (k : ℕ). low-fours / 2 ^ k % 2 ^ 8) whole_is ∙ (patterns (at / 8) (omega arith)).1
-
-  -- of a byte's high fours
-  pub place-high : bit_or (bit_and mask high-fours) (bit_and (value / 2 ^ 4) low-fours) / 2 ^ at % 2 ^ 8 ≡ place_at value mask (at + 4)
+module _ (value mask i : ℕ) (l : i < 8) where
+  -- of the high fours of byte i
+  pub place-high : bit_or (bit_and mask high-fours) (bit_and (value / 2 ^ 4) low-fours) / 2 ^ (8 * i) % 2 ^ 8 ≡ place_at value mask (8 * i + 4)
   place-high =
-      let m : mask / 2 ^ at / 16 ≡ mask / 2 ^ (at + 4) = shr-shr mask at 4 in
-      let v : value / 2 ^ 4 / 2 ^ at ≡ value / 2 ^ (at + 4) = shr-shr value 4 at ∙ ap (λ (k : ℕ). value / 2 ^ k) (add_comm 4 at) in
-      pairs mask (value / 2 ^ 4) high-fours low-fours at pattern-high pattern-low ∙ rw (m, v)
+      let m : mask / 2 ^ (8 * i) / 16 ≡ mask / 2 ^ (8 * i + 4) = shr-shr mask (8 * i) 4 in
+      let v : value / 2 ^ 4 / 2 ^ (8 * i) ≡ value / 2 ^ (8 * i + 4) = shr-shr value 4 (8 * i) ∙ ap (λ (k : ℕ). value / 2 ^ k) (add_comm 4 (8 * i)) in
+      pairs mask (value / 2 ^ 4) high-fours low-fours (8 * i) (patterns i l).0 (patterns i l).1 ∙ rw (m, v) refl
 
   -- what the highest four bits of a word hide of it
-  fourth : mask % 2 ^ 60 / 2 ^ at % 2 ^ 4 ≡ mask / 2 ^ at % 2 ^ 4
+  fourth : mask % 2 ^ 60 / 2 ^ (8 * i) % 2 ^ 4 ≡ mask / 2 ^ (8 * i) % 2 ^ 4
   fourth =
-      let e : 60 ≡ 60 - at + at = omega arith in
-      let f : 60 - at ≡ 56 - at + 4 = omega arith in
-      ap (λ (k : ℕ). mask % 2 ^ k / 2 ^ at % 2 ^ 4) e
-      ∙ ap (◌% 2 ^ 4) (field mask (60 - at) at)
-      ∙ ap (λ (k : ℕ). mask / 2 ^ at % 2 ^ k % 2 ^ 4) f
-      ∙ mod-mod-pow (mask / 2 ^ at) (56 - at) 4
+      let e : 60 ≡ 60 - 8 * i + 8 * i = omega arith in
+      let f : 60 - 8 * i ≡ 56 - 8 * i + 4 = omega arith in
+      ap (λ (k : ℕ). mask % 2 ^ k / 2 ^ (8 * i) % 2 ^ 4) e
+      ∙ ap (◌% 2 ^ 4) (field mask (60 - 8 * i) (8 * i))
+      ∙ ap (λ (k : ℕ). mask / 2 ^ (8 * i) % 2 ^ k % 2 ^ 4) f
+      ∙ mod-mod-pow (mask / 2 ^ (8 * i)) (56 - 8 * i) 4
 
   -- and of its low ones
-  pub place-low : bit_or (bit_and ((mask * 2 ^ 4) % 2 ^ 64) high-fours) (bit_and value low-fours) / 2 ^ at % 2 ^ 8 ≡ place_at value mask at
+  pub place-low : bit_or (bit_and ((mask * 2 ^ 4) % 2 ^ 64) high-fours) (bit_and value low-fours) / 2 ^ (8 * i) % 2 ^ 8 ≡ place_at value mask (8 * i)
   place-low =
       let x = (mask * 2 ^ 4) % 2 ^ 64 in
       let cut : x / 2 ^ 4 ≡ mask % 2 ^ 60 = omega arith in
-      let m : x / 2 ^ at / 16 ≡ mask % 2 ^ 60 / 2 ^ at = shr-shr x at 4 ∙ ap (λ (k : ℕ). x / 2 ^ k) (add_comm at 4) ∙ sym (shr-shr x 4 at) ∙ ap (◌/ 2 ^ at) cut in
-      pairs x value high-fours low-fours at pattern-high pattern-low ∙ rw m (ap (λ (k : ℕ). 16 * k + value / 2 ^ at % 16) fourth)
+      let m : x / 2 ^ (8 * i) / 16 ≡ mask % 2 ^ 60 / 2 ^ (8 * i) =
+      shr-shr x (8 * i) 4 ∙ ap (λ (k : ℕ). x / 2 ^ k) (add_comm (8 * i) 4) ∙ sym (shr-shr x 4 (8 * i)) ∙ ap (◌/ 2 ^ (8 * i)) cut in
+      pairs x value high-fours low-fours (8 * i) (patterns i l).0 (patterns i l).1 ∙ rw m (ap (λ (k : ℕ). 16 * k + value / 2 ^ (8 * i) % 16) fourth)
 
 -- ---- the loop
 

@@ -2,4 +2,3 @@
 pub mod Ruled
 pub mod FourLaws
 pub mod PackLaws
-pub mod PackingLaws

@@ -14,10 +14,11 @@ ghost use Rattle.buffers.specs.Place.{rows_by};
 ghost use Rattle.regions.specs.Region.{Given};
 ghost use Rattle.body.specs.Written.{column_of, Chosen, Written};
 
+use format::Kind;
 use kept_data::data::any_null;
 use nesting::table::{LIST32, by_offsets};
 use node_body::{put_buffers, put_values};
-use pack::read::{child_rows, kind_of, node_at};
+use pack::read::{child_rows, node_at};
 use predicate::Selection;
 use regions::rows_of;
 use slots::Bits;
@@ -73,7 +74,7 @@ fn put_kept(
         out.old at out.new result fields.old fields.new }
 {
     let node = node_at(journal, i as u32);
-    let k = kind_of(node.kind);
+    let k = Kind::from(node.kind);
     let n = child_rows(journal, i as u32) as usize;
     let b = put_buffers(
         out, at, journal, i, node, k, n, null, sel, s, bits, list, count,

@@ -5,7 +5,8 @@ ghost use Rattle.std.specs.Prelude.{map, ◌+◌, ◌^◌, ◌≤◌, ◌<◌, l
 ghost use Rattle.format.specs.Bytes.{packed};
 ghost use Rattle.format.specs.Write.{holds, numbers, offsets};
 ghost use Rattle.append.specs.Cells.{entries_of, Entries};
-ghost use Rattle.texts.specs.Texts.{offset, start_in, sizes_of, texts_of, Offsets, Texts};
+ghost use Rattle.texts.specs.Texts.{offset, sizes_of, Offsets};
+ghost use Rattle.texts.specs.Own.{Have, own_of};
 ghost use Rattle.list_columns.specs.Spans.{reach, Spans};
 ghost use Rattle.bitmaps.specs.Push.{bit_from};
 ghost use Rattle.runs.specs.Groups.{EndsLie, size_at, end_bytes};
@@ -14,6 +15,8 @@ ghost use Rattle.buffers.specs.Place.{appended, rows_by, Puts};
 
 use predicate::Selection;
 use slots::Bits;
+use texts::OwnBytes;
+use words::Number;
 
 // Where a buffer starts, and where the body ends behind it.
 #[derive(Clone, Copy)]
@@ -47,8 +50,8 @@ pub fn put_entries(
     Placed { start, next }
 }
 
-// The offsets of the kept rows rebuilt from 0, 4 bytes each, row 0's at `place`.
-pub fn put_offsets32(
+// The offsets of the kept rows rebuilt from 0, row 0's at `place`.
+pub fn put_offsets<N: Number>(
     out: &mut [u8],
     at: usize,
     journal: &[u8],
@@ -60,52 +63,23 @@ pub fn put_offsets32(
 ) -> Placed
     requires readable { Readable sel s.now mask }
     requires holds { Holds sel (kept_by sel s.now mask) mask.len list.now }
-    requires offsets { Offsets 4 journal.now place mask.len }
-    requires mask_in_bounds { at + length (appended at (holds (numbers 4 (offsets (sizes_of (offset 4 journal.now place) (rows_by sel s.now mask)))))) ≤ length out.old }
-    ensures { Puts 0 (holds (numbers 4 (offsets (sizes_of (offset 4 journal.now place) (rows_by sel s.now mask))))) out.old at out.new result }
+    requires offsets { Offsets N.WIDTH journal.now place mask.len }
+    requires mask_in_bounds { at + length (appended at (holds (numbers N.WIDTH (offsets (sizes_of (offset N.WIDTH journal.now place) (rows_by sel s.now mask)))))) ≤ length out.old }
+    ensures { Puts 0 (holds (numbers N.WIDTH (offsets (sizes_of (offset N.WIDTH journal.now place) (rows_by sel s.now mask))))) out.old at out.new result }
 {
     let start = append::fields::pad(out, at);
-    let to = text_columns::filter_offsets32(out, start, journal, place, sel, s, mask, list);
+    let to = text_columns::filter_offsets::<N>(out, start, journal, place, sel, s, mask, list);
     Placed {
         start,
         next: to.next,
     }
 }
 
-// The offsets of the kept rows rebuilt from 0, 8 bytes each, row 0's at `place`.
-pub fn put_offsets64(
-    out: &mut [u8],
-    at: usize,
-    journal: &[u8],
-    place: usize,
-    sel: Selection,
-    s: &[u8],
-    mask: Bits,
-    list: &[u32],
-) -> Placed
-    requires readable { Readable sel s.now mask }
-    requires holds { Holds sel (kept_by sel s.now mask) mask.len list.now }
-    requires offsets { Offsets 8 journal.now place mask.len }
-    requires mask_in_bounds { at + length (appended at (holds (numbers 8 (offsets (sizes_of (offset 8 journal.now place) (rows_by sel s.now mask)))))) ≤ length out.old }
-    ensures { Puts 0 (holds (numbers 8 (offsets (sizes_of (offset 8 journal.now place) (rows_by sel s.now mask))))) out.old at out.new result }
-{
-    let start = append::fields::pad(out, at);
-    let to = text_columns::filter_offsets64(out, start, journal, place, sel, s, mask, list);
-    Placed {
-        start,
-        next: to.next,
-    }
-}
-
-// The own bytes of the kept rows, by offsets of w bytes, row 0's at `place`; the data are entries of u bytes from `data_at` on.
+// The own bytes of the kept rows.
 pub fn put_texts(
     out: &mut [u8],
     at: usize,
-    journal: &[u8],
-    place: usize,
-    w: usize,
-    data_at: usize,
-    u: usize,
+    own: OwnBytes,
     sel: Selection,
     s: &[u8],
     mask: Bits,
@@ -113,23 +87,20 @@ pub fn put_texts(
 ) -> Placed
     requires readable { Readable sel s.now mask }
     requires holds { Holds sel (kept_by sel s.now mask) mask.len list.now }
-    requires texts { Texts u w journal.now place data_at mask.len }
-    requires mask_in_bounds { at + length (appended at (holds (texts_of (start_in u w journal.now place) journal.now data_at (rows_by sel s.now mask)))) ≤ length out.old }
-    ensures { Puts 0 (holds (texts_of (start_in u w journal.now place) journal.now data_at (rows_by sel s.now mask))) out.old at out.new result }
+    requires texts { Have own mask.len }
+    requires mask_in_bounds { at + length (appended at (holds (own_of own (rows_by sel s.now mask)))) ≤ length out.old }
+    ensures { Puts 0 (holds (own_of own.entry (rows_by sel s.now mask))) out.old at out.new result }
 {
     let start = append::fields::pad(out, at);
-    let next = text_columns::filter_texts(
-        out, start, journal, place, w, data_at, u, sel, s, mask, list,
-    );
+    let next = text_columns::filter_texts(out, start, own, sel, s, mask, list);
     Placed { start, next }
 }
 
-// The offsets of the kept rows of a list rebuilt from 0, width bytes each, row 0's at `place` and its validity bit at bit `from`: a null row has no child row.
-pub fn put_spans(
+// The offsets of the kept rows of a list rebuilt from 0, row 0's at `place` and its validity bit at bit `from`: a null row has no child row.
+pub fn put_spans<N: Number>(
     out: &mut [u8],
     at: usize,
     journal: &[u8],
-    width: usize,
     place: usize,
     from: usize,
     sel: Selection,
@@ -139,13 +110,13 @@ pub fn put_spans(
 ) -> Placed
     requires readable { Readable sel s.now mask }
     requires holds { Holds sel (kept_by sel s.now mask) mask.len list.now }
-    requires spans { Spans width journal.now place from mask.len }
-    requires mask_in_bounds { at + length (appended at (holds (numbers width (offsets (sizes_of (reach width journal.now place from) (rows_by sel s.now mask)))))) ≤ length out.old }
-    ensures { Puts 0 (holds (numbers width (offsets (sizes_of (reach width journal.now place from) (rows_by sel s.now mask))))) out.old at out.new result }
+    requires spans { Spans N.WIDTH journal.now place from mask.len }
+    requires mask_in_bounds { at + length (appended at (holds (numbers N.WIDTH (offsets (sizes_of (reach N.WIDTH journal.now place from) (rows_by sel s.now mask)))))) ≤ length out.old }
+    ensures { Puts 0 (holds (numbers N.WIDTH (offsets (sizes_of (reach N.WIDTH journal.now place from) (rows_by sel s.now mask))))) out.old at out.new result }
 {
     let start = append::fields::pad(out, at);
-    let next = list_columns::filter_spans(
-        out, start, journal, width, place, from, sel, s, mask, list,
+    let next = list_columns::filter_spans::<N>(
+        out, start, journal, place, from, sel, s, mask, list,
     );
     Placed { start, next }
 }

@@ -8,6 +8,7 @@ ghost use Rattle.std.specs.Prelude.{◌≤◌, ◌<◌, length};
 
 use filter::filter;
 use format::Answer;
+use report::Line;
 
 // What lent bytes and entries hold before a call. No entry is so large: it is a row number.
 const BEFORE: u8 = 0xA5;
@@ -23,28 +24,9 @@ const SCRATCH_ROOM: usize = 64;
 
 const OUTPUT_ROOM: usize = 4096;
 
-fn wide(x: u32) -> u64 {
-    x as u64
-}
-
-fn wide_byte(x: u8) -> u64
-    ensures { result < 256 }
-{
-    x as u64
-}
-
 // A write that fails is passed over: what is printed is held to stored answers.
 fn say(rt: &impl Print, text: &[u8]) {
     let _ = rt.write_all(text);
-}
-
-fn say_number(rt: &impl Print, x: u64) {
-    let _ = rt.print(x);
-}
-
-// A byte in two digits of hexadecimal.
-fn say_byte(rt: &impl Print, x: u8) {
-    let _ = print!(rt; "{x:02x}");
 }
 
 // One of the six numbers of a line.
@@ -52,39 +34,37 @@ fn number(numbers: &[u8; 24], k: usize) -> u64
     requires { k < 6 }
 {
     let at = 4 * k;
-    let low = wide_byte(numbers[at]) + 0x100 * wide_byte(numbers[at + 1]);
-    let high = wide_byte(numbers[at + 2]) + 0x100 * wide_byte(numbers[at + 3]);
-    low + 0x1_0000 * high
+    u64::from(u32::from_le_bytes([
+        numbers[at],
+        numbers[at + 1],
+        numbers[at + 2],
+        numbers[at + 3],
+    ]))
 }
 
 // A length that a line gives, but no more than there is.
 fn at_most(x: u64, room: usize) -> usize
     ensures { result ≤ room }
 {
-    if x < room as u64 { x as usize } else { room }
+    x.min(room as u64) as usize
 }
 
 // The bytes in hexadecimal, a space before every four.
 fn say_extract(rt: &impl Print, bytes: &[u8]) {
     say(rt, b"  extract");
-    let mut i: usize = 0;
-    while i < bytes.len() {
-        if i % 4 == 0 {
-            say(rt, b" ");
+    for four in bytes.chunks(4) {
+        say(rt, b" ");
+        for byte in four {
+            let _ = print!(rt; "{byte:02x}");
         }
-        say_byte(rt, bytes[i]);
-        i += 1;
     }
     say(rt, b"\n");
 }
 
 fn say_list(rt: &impl Print, list: &[u32]) {
     say(rt, b"  list");
-    let mut i: usize = 0;
-    while i < list.len() {
-        say(rt, b" ");
-        say_number(rt, wide(list[i]));
-        i += 1;
+    for entry in list {
+        let _ = print!(rt; " {entry}");
     }
     say(rt, b"\n");
 }
@@ -93,14 +73,9 @@ fn say_list(rt: &impl Print, list: &[u32]) {
 fn stored(list: &[u32]) -> usize
     ensures { result ≤ length list.now }
 {
-    let mut i: usize = 0;
-    while i < list.len() {
-        if list[i] == BEFORE_ENTRY {
-            return i;
-        }
-        i += 1;
-    }
-    i
+    list.iter()
+        .take_while(|entry| **entry != BEFORE_ENTRY)
+        .count()
 }
 
 // The stored entries, where a list was asked for; gives how many.
@@ -117,37 +92,16 @@ fn say_stored(rt: &impl Print, asked: bool, list: &[u32]) -> usize {
 fn cleared(scratch: &[u8]) -> usize
     ensures { result ≤ length scratch.now }
 {
-    let mut i: usize = 0;
-    while i < scratch.len() {
-        if scratch[i] != 0 {
-            return i;
-        }
-        i += 1;
-    }
-    i
+    scratch.iter().take_while(|byte| **byte == 0).count()
 }
 
 // All bytes from a place on are as they were before the call.
 fn bytes_kept(bytes: &[u8], from: usize) -> bool {
-    let mut i = from;
-    while i < bytes.len() {
-        if bytes[i] != BEFORE {
-            return false;
-        }
-        i += 1;
-    }
-    true
+    bytes.iter().skip(from).all(|byte| *byte == BEFORE)
 }
 
 fn entries_kept(list: &[u32], from: usize) -> bool {
-    let mut i = from;
-    while i < list.len() {
-        if list[i] != BEFORE_ENTRY {
-            return false;
-        }
-        i += 1;
-    }
-    true
+    list.iter().skip(from).all(|entry| *entry == BEFORE_ENTRY)
 }
 
 // Whether list, scratch and output are as they were, each from a place on.
@@ -179,16 +133,12 @@ fn say_done(rt: &impl Print, bytes: u64, asked: bool, list: &[u32], scratch: &[u
     say_extract(rt, &output[..size]);
     let entries = say_stored(rt, asked, list);
     let zeros = cleared(scratch);
-    say(rt, b"  scratch zero ");
-    say_number(rt, zeros as u64);
-    say(rt, b"\n");
+    let _ = println!(rt; "  scratch zero {zeros}");
     say_rest(rt, list, entries, scratch, zeros, output, size);
 }
 
 fn say_answer(rt: &impl Print, answer: Answer) {
-    let mut line = [0u8; 128];
-    let n = report::line_of(answer, &mut line);
-    say(rt, &line[..n]);
+    let _ = rt.print(Line(answer));
 }
 
 fn call(
@@ -200,19 +150,13 @@ fn call(
     scratch: &mut [u8],
     output: &mut [u8],
 ) {
-    let states = number(numbers, 0) != 0;
-    let stated = number(numbers, 1);
+    let stated = (number(numbers, 0) != 0).then_some(number(numbers, 1));
     let asked = number(numbers, 2) != 0;
-    let answer = filter(mask, journal, states, stated, asked, list, scratch, output);
+    let answer = filter(mask, journal, stated, asked, list, scratch, output);
     say_answer(rt, answer);
     match answer {
-        Answer::Done {
-            kept: _,
-            slots: _,
-            route: _,
-            bytes,
-        } => say_done(rt, bytes, asked, list, scratch, output),
-        Answer::Refused { number: _, pack: _ } => say_rest(rt, list, 0, scratch, 0, output, 0),
+        Ok(done) => say_done(rt, done.bytes, asked, list, scratch, output),
+        Err(_) => say_rest(rt, list, 0, scratch, 0, output, 0),
     }
 }
 
@@ -235,36 +179,35 @@ fn lend(rt: &impl Print, mask: &[u8], journal: &[u8], numbers: &[u8; 24]) {
     );
 }
 
-// The case of a line; gives the place behind it.
-fn case(rt: &impl Print, text: &[u8], from: usize) -> usize
-    requires { from < length text.now }
-    ensures { (from < result) × (result ≤ length text.now) }
+// The case of a line; gives the text behind it.
+fn case<'a>(rt: &impl Print, text: &'a [u8]) -> &'a [u8]
+    requires { 0 < length text.now }
+    ensures { length result.now < length text.now }
 {
     let mut mask = [0u8; PACK_ROOM];
     let mut journal = [0u8; PACK_ROOM];
     let mut numbers = [0u8; 24];
-    let end = case_text::name_end(text, from + 1);
-    say(rt, &text[from..end]);
+    let (name, rest) = text.split_at(1 + case_text::name_end(&text[1..]));
+    say(rt, name);
     say(rt, b": ");
-    let m = case_text::read_part(text, end, &mut mask);
-    let j = case_text::read_part(text, m.next, &mut journal);
-    let n = case_text::read_part(text, j.next, &mut numbers);
+    let m = case_text::read_part(rest, &mut mask);
+    let j = case_text::read_part(m.rest, &mut journal);
+    let n = case_text::read_part(j.rest, &mut numbers);
     let m_len = m.len;
     let j_len = j.len;
     lend(rt, &mask[..m_len], &journal[..j_len], &numbers);
-    n.next
+    n.rest
 }
 
 // Every call of a text. Nothing can be promised, since it only prints and the contract of a write says nothing of what is written: what it prints is
 // held to stored answers.
 pub fn run(rt: &impl Print, text: &[u8]) {
-    let mut at: usize = 0;
-    while at < text.len() {
-        let c = text[at];
-        at = if (c == b'#') | (c == b'\n') {
-            case_text::next_line(text, at)
+    let mut rest = text;
+    while let Some(c) = rest.first() {
+        rest = if (*c == b'#') | (*c == b'\n') {
+            case_text::next_line(rest)
         } else {
-            case(rt, text, at)
+            case(rt, rest)
         };
     }
 }

@@ -8,8 +8,11 @@ use mathlib.Core.Path.{ap₂}
 use borrow.Fn.Kinds.{Dens, res_t, ended_of}
 use contract.Lifetimes.{Lfts}
 use denote.Triple.Clauses.{AtExit}
-use Rattle.format.specs.declared.Answer.{Answer}
-use Rattle.format.specs.Answer.{Call, call_of, stated_if}
+use Rattle.std.proofs.Common.{Result}
+use Rattle.std.specs.Bool.{then_some}
+use Rattle.format.specs.declared.Done.{Done}
+use Rattle.format.specs.declared.Refused.{Refused}
+use Rattle.format.specs.Answer.{Call, call_of}
 use Rattle.format.proofs.Demand3 as format
 use Rattle.format.proofs.Demand3.{Alike, Seen, Same}
 use Rattle.entries.specs.Numbers.{Called, refusal_number, answer_numbers}
@@ -31,10 +34,10 @@ pub record Entry : Type 0 where
   pub output_after : List ℕ
   pub list_after : List ℕ
   pub scratch_after : List ℕ
-  pub ensures : Called (call_of mask journal (stated_if states stated) asked list scratch output) result numbers output_after list_after scratch_after
+  pub ensures : Called (call_of mask journal (then_some states stated) asked list scratch output) result numbers output_after list_after scratch_after
 
 abbrev pub call : Entry → Call
-call f = call_of f.mask f.journal (stated_if f.states f.stated) f.asked f.list f.scratch f.output
+call f = call_of f.mask f.journal (then_some f.states f.stated) f.asked f.list f.scratch f.output
 
 -- any call of the entry point is one: nothing is taken of it but what its contract ensures of arguments a, result r and buffers s at return
 pub of-contract : (κs : Lfts 6) (a : Dens κs has.ps) (r : (res_t has.r κs).Denot) (s : AtExit (ended_of 6 has.ps has.r) κs) → promise.Learnt κs a r s → Entry
@@ -57,7 +60,7 @@ of-contract κs a r s e =
     }
 
 -- an answer as a C caller has it: the number returned, and the four numbers written
-abbrev pub in_c : Answer → ℕ × List ℕ
+abbrev pub in_c : Result Done Refused → ℕ × List ℕ
 in_c a = (refusal_number a, answer_numbers a)
 
 abbrev pub seen : (f : Entry) → Seen in_c (call f)

@@ -2,7 +2,8 @@
 #![tactic(auto)]
 
 ghost use Rattle.std.specs.Prelude.{◌≡◌};
-ghost use Rattle.format.specs.Answer.{call_of, preparing, stated_if};
+ghost use Rattle.std.specs.Bool.{then_some};
+ghost use Rattle.format.specs.Answer.{call_of, preparing};
 ghost use Rattle.format.specs.Verdict.{journal_verdict, mask_verdict};
 ghost use Rattle.entries.specs.Numbers.{Entered, Called};
 
@@ -32,7 +33,7 @@ pub extern "C" fn prepare(
     list: &mut [u32],
     answer: &mut [u64; 4],
 ) -> u64
-    ensures { Entered (preparing mask.now (stated_if stated count) asked list.old) result answer.new list.new }
+    ensures { Entered (preparing mask.now (then_some stated count) asked list.old) result answer.new list.new }
 {
     entries::prepare(mask, stated, count, asked, list, answer)
 }
@@ -50,7 +51,7 @@ pub extern "C" fn filter(
     output: &mut [u8],
     answer: &mut [u64; 4],
 ) -> u64
-    ensures { Called (call_of mask.now journal.now (stated_if stated count) asked list.old scratch.old output.old)
+    ensures { Called (call_of mask.now journal.now (then_some stated count) asked list.old scratch.old output.old)
         result answer.new output.new list.new scratch.new }
 {
     entries::filter(

@@ -1,3 +1,4 @@
 -- What the contracts of this crate cite.
+pub mod Filled
 pub mod Places
 pub mod Words

@@ -1,11 +1,13 @@
 -- What the words of a part give, where there is room for m bytes. Assumes nothing.
-use Rattle.std.specs.Prelude.{ℕ, zero, suc, ◌+◌, ◌-◌, ◌*◌, ◌/◌, ◌%◌, ◌^◌, ◌≤◌, cond, ◌&&◌, ◌||◌, List, [], ◌∷◌, ◌++◌, ◌≡◌, eqb, ltb, leb, length, get_or, take}
-use Rattle.case_text.specs.declared.State.{State}
+use Rattle.std.specs.Prelude.{ℕ, zero, suc, ◌+◌, ◌-◌, ◌*◌, ◌/◌, ◌%◌, ◌^◌, ◌≤◌, Bool, cond, ◌&&◌, Option, Some, None, List, [], ◌∷◌, ◌++◌, ◌≡◌, ◌==◌, nat_lt, nat_le, length, slice_index, take}
+use Rattle.case_text.specs.declared.Word.{Word}
+use Rattle.case_text.specs.declared.WordKind.{WordKind}
+use Rattle.case_text.specs.declared.WordKind.TheVariants.{Number, Byte, Again}
 use Rattle.case_text.specs.Places.{ends_part}
 
 -- one byte more, if there is room
 unfoldable pub put_byte : ℕ → List ℕ → ℕ → List ℕ
-put_byte m ys x = cond (ltb (length ys) m) (ys ++ x ∷ []) ys
+put_byte m ys x = cond (nat_lt (length ys) m) (ys ++ x ∷ []) ys
 
 -- a number in four bytes, low byte first
 abbrev pub put_number : ℕ → List ℕ → ℕ → List ℕ
@@ -14,44 +16,50 @@ put_number m ys x = put_byte m (put_byte m (put_byte m (put_byte m ys (x % 256))
 -- the byte forty places back, n times; none where there are no forty
 unfoldable pub put_again : ℕ → List ℕ → ℕ → List ℕ
 put_again m ys zero = ys
-put_again m ys (suc n) = put_again m (cond (ltb (length ys) 40) ys (put_byte m ys (get_or ys (length ys - 40) 0))) n
+put_again m ys (suc n) = put_again m (cond (nat_lt (length ys) 40) ys (put_byte m ys (slice_index ys (length ys - 40)))) n
 
--- a part so far: its bytes, and the word that is being read, by its sign and its number
-pub record Read : Type 0 where
-  pub bytes : List ℕ
-  pub sign : ℕ
-  pub value : ℕ
+-- a word by its kind: a number of four bytes, one byte, the forty bytes before it so many times more
+abbrev pub put_kind : ℕ → List ℕ → WordKind → ℕ → List ℕ
+put_kind m ys Number n = put_number m ys n
+put_kind m ys Byte n = put_byte m ys (n % 256)
+put_kind m ys Again n = put_again m ys (40 * n)
 
--- a word by its sign: a number of four bytes (1, 49), one byte (b, 98), the forty bytes before it so many times more (*, 42)
-abbrev pub put_word : ℕ → Read → List ℕ
-put_word m s =
-    cond (eqb s.sign 49) (put_number m s.bytes s.value)
-    (cond (eqb s.sign 98) (put_byte m s.bytes (s.value % 256)) (cond (eqb s.sign 42) (put_again m s.bytes (40 * s.value)) s.bytes))
+abbrev pub put_word : ℕ → List ℕ → Option Word → List ℕ
+put_word m ys None = ys
+put_word m ys (Some w) = put_kind m ys w.kind w.value
 
--- a byte of text: a digit (48 to 57) more of a word, or what ends one and may begin another
-unfoldable pub read_byte : ℕ → Read → ℕ → Read
-read_byte m s c =
-    cond (leb 48 c && leb c 57)
-    (record { bytes = s.bytes; sign = cond (eqb s.sign 0) 49 s.sign; value = (10 * s.value + c % 16) % 2 ^ 32 })
-    (record { bytes = put_word m s; sign = cond (eqb c 98 || eqb c 42) c 0; value = 0 })
+-- a digit more of a word; a word that begins with a digit is a number
+abbrev pub with_digit : Word → ℕ → Word
+with_digit w digit = record { kind = w.kind; value = (10 * w.value + digit) % 2 ^ 32 }
 
--- the part from place i on, of k bytes that are left; the text's end ends a word as a line's does
-unfoldable pub read_from : ℕ → List ℕ → ℕ → ℕ → Read → Read
-read_from m text zero i s = record { bytes = put_word m s; sign = 0; value = 0 }
-read_from m text (suc k) i s = cond (ends_part (get_or text i 0)) (read_byte m s (get_or text i 0)) (read_from m text k (i + 1) (read_byte m s (get_or text i 0)))
+abbrev pub begun : WordKind → Word
+begun k = record { kind = k; value = 0 }
 
--- the bytes of the part from a place on
-abbrev pub unread : Read
-unread = record { bytes = []; sign = 0; value = 0 }
+abbrev pub or_number : Option Word → Word
+or_number None = begun Number
+or_number (Some w) = w
 
-abbrev pub part_bytes : ℕ → List ℕ → ℕ → List ℕ
-part_bytes m text from = (read_from m text (length text - from) from unread).bytes
+-- a byte of text: a digit (48 to 57) more of a word, or what ends one and may begin another, b (98) or * (42)
+abbrev pub is_digit : ℕ → Bool
+is_digit c = nat_le 48 c && nat_le c 57
+
+abbrev pub next_word : Option Word → ℕ → Option Word
+next_word word c =
+    cond (is_digit c) (Some (with_digit (or_number word) (c - 48)))
+    (cond (c == 98) (Some (begun Byte)) (cond (c == 42) (Some (begun Again)) None))
+
+abbrev pub next_bytes : ℕ → List ℕ → Option Word → ℕ → List ℕ
+next_bytes m ys word c = cond (is_digit c) ys (put_word m ys word)
+
+-- the bytes of a part, behind those so far and the word that is being read; the text's end ends a word as a line's does
+unfoldable pub bytes_from : ℕ → List ℕ → Option Word → List ℕ → List ℕ
+bytes_from m ys word [] = put_word m ys word
+bytes_from m ys word (c ∷ text) = cond (ends_part c) (next_bytes m ys word c) (bytes_from m (next_bytes m ys word c) (next_word word c) text)
+
+abbrev pub part_bytes : ℕ → List ℕ → List ℕ
+part_bytes m text = bytes_from m [] None text
 
 -- the first n bytes of a buffer are ys
 pub record Front (buffer : List ℕ) (n : ℕ) (ys : List ℕ) : Type 0 where
   pub fits : n ≤ length buffer
   pub is : take n buffer ≡ ys
-
--- what a state of the reader stands for, beside the buffer that it writes
-abbrev pub read_so_far : List ℕ → State → Read
-read_so_far buffer s = record { bytes = take s.len buffer; sign = s.sign; value = s.value }

@@ -2,169 +2,137 @@
 // Words: 12 is a number of four bytes, b12 one byte, *12 the forty bytes before it twelve times more.
 #![tactic(auto)]
 
-ghost use Rattle.std.specs.Prelude.{◌≡◌, ◌*◌, ◌^◌, ◌≤◌, ◌<◌, length, take};
-ghost use Rattle.case_text.specs.Places.{name_end, part_end, line_end};
-ghost use Rattle.case_text.specs.Words.{Front, put_byte, put_number, put_again, put_word, read_byte, read_so_far, part_bytes};
+mod bytes;
 
-// How many bytes a part gave, and the place in the text behind it.
+ghost use Rattle.std.specs.Prelude.{◌≡◌, ◌≤◌, ◌<◌, length};
+ghost use Rattle.case_text.specs.Places.{name_end, part_rest, line_rest};
+ghost use Rattle.case_text.specs.Words.{Front, put_word, next_word, part_bytes, with_digit};
+ghost use Rattle.case_text.specs.Filled.{Fills, FillsAt, FillsPart};
+
+use bytes::Bytes;
+
+// How many bytes a part gave, and the text behind it.
 #[derive(Clone, Copy)]
-pub struct Part {
+pub struct Part<'a> {
     pub len: usize,
-    pub next: usize,
+    pub rest: &'a [u8],
 }
 
-// A part so far: its bytes, and the word that is being read, by its sign and its number.
+// What a word gives: a number of four bytes, one byte, or the forty bytes before it so many times more.
 #[derive(Clone, Copy)]
-struct State {
-    len: usize,
-    sign: u8,
-    value: u64,
+enum WordKind {
+    Number,
+    Byte,
+    Again,
 }
 
-// One byte more, if there is room.
-fn put(bytes: &mut [u8], at: usize, x: u8) -> usize
-    requires { at ≤ length bytes.old }
-    ensures { Front bytes.new result (put_byte (length bytes.old) (take at bytes.old) x) }
-{
-    if at < bytes.len() {
-        bytes[at] = x;
-        return at + 1;
+// The word that is being read, and its number so far.
+#[derive(Clone, Copy)]
+struct Word {
+    kind: WordKind,
+    value: u32,
+}
+
+impl Word {
+    // The word before its first digit.
+    fn new(kind: WordKind) -> Word
+        ensures { result ≡ record { kind = kind; value = 0 } }
+    {
+        Word { kind, value: 0 }
     }
-    at
-}
 
-// A number in four bytes, low byte first.
-fn put_number(bytes: &mut [u8], at: usize, x: u64) -> usize
-    requires { at ≤ length bytes.old }
-    ensures { Front bytes.new result (put_number (length bytes.old) (take at bytes.old) x) }
-{
-    let one = put(bytes, at, (x % 256) as u8);
-    let two = put(bytes, one, (x / 0x100 % 256) as u8);
-    let three = put(bytes, two, (x / 0x1_0000 % 256) as u8);
-    put(bytes, three, (x / 0x100_0000 % 256) as u8)
-}
-
-// The forty bytes before a place, again and again.
-fn put_again(bytes: &mut [u8], at: usize, times: u64) -> usize
-    requires { (at ≤ length bytes.old) × (times < 2 ^ 32) }
-    ensures { Front bytes.new result (put_again (length bytes.old) (take at bytes.old) (40 * times)) }
-{
-    let mut here = at;
-    let mut left = 40 * times;
-    while 0 < left {
-        if here < 40 {
-            return here;
+    // A digit more.
+    fn with_digit(self, digit: u32) -> Word
+        ensures { result ≡ with_digit self digit }
+    {
+        Word {
+            kind: self.kind,
+            value: self.value.wrapping_mul(10).wrapping_add(digit),
         }
-        if bytes.len() <= here {
-            return here;
-        }
-        let from = here - 40;
-        let x = bytes[from];
-        here = put(bytes, here, x);
-        left -= 1;
     }
-    here
 }
 
 // The word that was read, put behind the bytes so far.
-fn put_word(bytes: &mut [u8], s: State) -> usize
-    requires { (s.len ≤ length bytes.old) × (s.value < 2 ^ 32) }
-    ensures { Front bytes.new result (put_word (length bytes.old) (read_so_far bytes.old s)) }
+fn put_word(bytes: &mut Bytes, word: Option<Word>)
+    ensures same_reference { bytes.new.buffer.ghost_name ≡ bytes.old.buffer.ghost_name }
+    ensures bytes { Fills bytes.old bytes.new put_word word }
 {
-    let sign = s.sign;
-    match sign {
-        b'1' => put_number(bytes, s.len, s.value),
-        b'b' => put(bytes, s.len, (s.value % 256) as u8),
-        b'*' => put_again(bytes, s.len, s.value),
-        _ => s.len,
+    if let Some(Word { kind, value }) = word {
+        match kind {
+            WordKind::Number => bytes.put_number(value),
+            WordKind::Byte => bytes.put_byte((value % 256) as u8),
+            WordKind::Again => bytes.put_again(value),
+        }
     }
 }
 
 // A byte of text: a digit more of a word, or what ends one and may begin another.
-fn step(bytes: &mut [u8], s: State, c: u8) -> State
-    requires { (s.len ≤ length bytes.old) × (s.value < 2 ^ 32) }
-    ensures len_in_bounds { (result.len ≤ length bytes.new) × (result.value < 2 ^ 32) }
-    ensures result_after { read_so_far bytes.new result ≡ read_byte (length bytes.old) (read_so_far bytes.old s) c }
+fn step(bytes: &mut Bytes, word: Option<Word>, c: u8) -> Option<Word>
+    ensures same_reference { bytes.new.buffer.ghost_name ≡ bytes.old.buffer.ghost_name }
+    ensures bytes { FillsAt bytes.old bytes.new word c }
+    ensures word { result ≡ next_word word c }
 {
-    if (b'0' <= c) & (c <= b'9') {
-        let sign = if s.sign == 0 { b'1' } else { s.sign };
-        let digit = (c % 16) as u64;
-        return State {
-            len: s.len,
-            sign,
-            value: (10 * s.value + digit) % 0x1_0000_0000,
-        };
+    if c.is_ascii_digit() {
+        let word = word.unwrap_or(Word::new(WordKind::Number));
+        return Some(word.with_digit((c - b'0') as u32));
     }
-    let len = put_word(bytes, s);
-    let begins = (c == b'b') | (c == b'*');
-    State {
-        len,
-        sign: if begins { c } else { 0 },
-        value: 0,
+    put_word(bytes, word);
+    match c {
+        b'b' => Some(Word::new(WordKind::Byte)),
+        b'*' => Some(Word::new(WordKind::Again)),
+        _ => None,
     }
 }
 
-// A part of a line, from a place on: its bytes at the front of `bytes`, as far as there is room.
-pub fn read_part(text: &[u8], from: usize, bytes: &mut [u8]) -> Part
-    requires { from ≤ length text.now }
-    ensures next_value { (result.next ≡ part_end text.now from) × (from ≤ result.next) × (result.next ≤ length text.now) }
-    ensures front { Front bytes.new result.len (part_bytes (length bytes.old) text.now from) }
+// The words of the part that a text begins with, put behind the bytes so far; gives the text behind it.
+fn put_part<'a>(bytes: &mut Bytes, text: &'a [u8]) -> &'a [u8]
+    ensures same_reference { bytes.new.buffer.ghost_name ≡ bytes.old.buffer.ghost_name }
+    ensures bytes { FillsPart bytes.old bytes.new text.now }
+    ensures rest { result.now ≡ part_rest text.now }
 {
-    let n = text.len();
-    let mut s = State {
-        len: 0,
-        sign: 0,
-        value: 0,
-    };
-    let mut i = from;
-    while i < n {
-        let c = text[i];
-        i += 1;
-        s = step(bytes, s, c);
-        if (c == b'|') | (c == b'\n') {
-            return Part {
-                len: s.len,
-                next: i,
-            };
+    let mut word = None;
+    let mut rest = text;
+    while let Some((c, tail)) = rest.split_first() {
+        rest = tail;
+        word = step(bytes, word, *c);
+        if (*c == b'|') | (*c == b'\n') {
+            return rest;
         }
     }
     // The text's end ends a word as a line's does.
+    put_word(bytes, word);
+    rest
+}
+
+// The part that a text begins with: its bytes at the front of `buffer`, as far as there is room.
+pub fn read_part<'a>(text: &'a [u8], buffer: &mut [u8]) -> Part<'a>
+    ensures rest { result.rest.now ≡ part_rest text.now }
+    ensures front { Front buffer.new result.len (part_bytes (length buffer.old) text.now) }
+{
+    let mut bytes = Bytes { buffer, len: 0 };
+    let rest = put_part(&mut bytes, text);
     Part {
-        len: put_word(bytes, s),
-        next: n,
+        len: bytes.len,
+        rest,
     }
 }
 
-// The end of a name: the first space or line end from a place on.
-pub fn name_end(text: &[u8], from: usize) -> usize
-    requires { from ≤ length text.now }
-    ensures { (result ≡ name_end text.now from) × (from ≤ result) × (result ≤ length text.now) }
+// The end of a name: the first space or line end.
+pub fn name_end(text: &[u8]) -> usize
+    ensures { (result ≡ name_end text.now) × (result ≤ length text.now) }
 {
-    let n = text.len();
-    let mut i = from;
-    while i < n {
-        let c = text[i];
-        if (c == b' ') | (c == b'\n') {
-            return i;
-        }
-        i += 1;
-    }
-    i
+    text.iter()
+        .position(|c| (*c == b' ') | (*c == b'\n'))
+        .unwrap_or(text.len())
 }
 
-// The place behind the line's end.
-pub fn next_line(text: &[u8], from: usize) -> usize
-    requires { from < length text.now }
-    ensures { (result ≡ line_end text.now from) × (from < result) × (result ≤ length text.now) }
+// The text behind the line's end.
+pub fn next_line(text: &[u8]) -> &[u8]
+    ensures rest { result.now ≡ line_rest text.now }
+    ensures shorter { 0 < length text.now → length result.now < length text.now }
 {
-    let n = text.len();
-    let mut i = from;
-    while i < n {
-        let c = text[i];
-        i += 1;
-        if c == b'\n' {
-            return i;
-        }
+    match text.iter().position(|c| *c == b'\n') {
+        Some(end) => &text[end + 1..],
+        None => &[],
     }
-    i
 }

@@ -1,6 +1,6 @@
 -- Null counts: of a node without a bitmap, of one with; and by the mark. Assumes nothing.
 use Prim.Native.Nat.{ℕ, ◌+◌, ◌-◌, ◌*◌, ◌^◌, ◌≤◌, ◌<◌}
-use mathlib.Core.Bool.{Bool, true, false, not, ◌&&◌, false≢true}
+use mathlib.Core.Bool.{not}
 use mathlib.Core.List.{List}
 use mathlib.Core.Path.{◌≡◌, refl, sym}
 use native.Mathlib.Omega.{arith}
@@ -33,12 +33,3 @@ module _ (b : List ℕ) (i : ℕ) {n : Node} (laid : Laid b) (inside : i < node_
     pub by-bitmap : length (chosen (λ k. not (bit_at b n.validity_at (n.skip + k))) n.rows) ≡ null_count b i
     unfolding null_count valid
     by-bitmap = rw (has-bitmap looked h, read)
-
--- by the mark
-pub no-counts : (r u x : Bool) → not r ≡ true → r ≡ u → false ≡ (u && x)
-no-counts true u x h e = absurd (false≢true h)
-no-counts false u x h e = rw (← e)
-
-pub with-counts : (r u x bad : Bool) → not r ≡ false → r ≡ u → bad ≡ x → bad ≡ (u && x)
-with-counts true u x bad h e f = rw (← e) f
-with-counts false u x bad h e f = absurd (false≢true (sym h))

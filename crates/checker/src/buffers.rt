@@ -4,9 +4,10 @@ ghost use Rattle.format.specs.Node.{node_count};
 ghost use Rattle.format.specs.Verdict.{first_size, second_size, bad_buffers, wrong_rows, wrong_buffers};
 
 use format::Kind;
-use pack::read::{child_rows, kind_of, node_at, node_count, table_start};
+use pack::read::{child_rows, node_at, node_count, table_start};
 
 // The bytes of a first buffer, by kind, param, places and the child's rows. A place and they still fit a number together.
+#[tactic(auto, unfolding(format::specs::Bytes::bytes_for))]
 pub fn first_size(kind: Kind, param: u32, n: u64, c: u32) -> u64
     requires { n ≤ 1_048_576 }
     ensures { (result ≡ first_size kind param n c) × (result + 2 ^ 32 ≤ 2 ^ 64) }
@@ -14,20 +15,15 @@ pub fn first_size(kind: Kind, param: u32, n: u64, c: u32) -> u64
     let p = param as u64;
     match kind {
         Kind::Bits => (n + 7) / 8,
-        Kind::Native => p * n,
-        Kind::Fixed => p * n,
-        Kind::Bytes32 => 4 * (n + 1),
-        Kind::Bytes64 => 8 * (n + 1),
+        Kind::Native | Kind::Fixed | Kind::Dictionary => p * n,
+        Kind::Bytes32 | Kind::Nested32 => 4 * (n + 1),
+        Kind::Bytes64 | Kind::Nested64 => 8 * (n + 1),
         Kind::Views => 16 * n,
         Kind::Lists32 => 4 * n,
         Kind::Lists64 => 8 * n,
         Kind::Runs => p * c as u64,
-        Kind::Struct => 0,
         Kind::Union => n,
-        Kind::Dictionary => p * n,
-        Kind::Nested32 => 4 * (n + 1),
-        Kind::Nested64 => 8 * (n + 1),
-        Kind::Unknown => 0,
+        Kind::Struct | Kind::Unknown => 0,
     }
 }
 
@@ -37,21 +33,10 @@ pub fn second_size(kind: Kind, n: u64, length: u32) -> u64
     ensures { (result ≡ second_size kind n length) × (result ≤ 2 ^ 32) }
 {
     match kind {
-        Kind::Bits => 0,
-        Kind::Native => 0,
-        Kind::Fixed => 0,
-        Kind::Bytes32 => length as u64,
-        Kind::Bytes64 => length as u64,
-        Kind::Views => 0,
+        Kind::Bytes32 | Kind::Bytes64 => length as u64,
         Kind::Lists32 => 4 * n,
         Kind::Lists64 => 8 * n,
-        Kind::Runs => 0,
-        Kind::Struct => 0,
-        Kind::Union => 0,
-        Kind::Dictionary => 0,
-        Kind::Nested32 => 0,
-        Kind::Nested64 => 0,
-        Kind::Unknown => 0,
+        _ => 0,
     }
 }
 
@@ -61,7 +46,7 @@ fn bad_buffers(pack: &[u8], i: u32) -> bool
     ensures { result ≡ bad_buffers pack.now i }
 {
     let n = node_at(pack, i);
-    let kind = kind_of(n.kind);
+    let kind = Kind::from(n.kind);
     let end = table_start(pack) as u64;
     let places = n.skip as u64 + n.rows as u64;
     let first = first_size(kind, n.param, places, child_rows(pack, i));
@@ -77,10 +62,5 @@ pub fn wrong_buffers(pack: &[u8]) -> bool
     requires { (node_count pack.now ≤ 64) × (wrong_rows pack.now ≡ false) }
     ensures { result ≡ wrong_buffers pack.now }
 {
-    let n = node_count(pack);
-    let mut bad = false;
-    for i in 0..n {
-        bad = bad | bad_buffers(pack, i);
-    }
-    bad
+    (0..node_count(pack)).any(|i| bad_buffers(pack, i))
 }

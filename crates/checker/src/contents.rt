@@ -5,13 +5,13 @@ ghost use Rattle.format.specs.Node.{node_count, kind};
 ghost use Rattle.format.specs.Verdict.{bad_content, wrong_content};
 ghost use Rattle.checker.specs.Laid.{Laid};
 
-use content::keys::{bad_keys, bad_keys8, bad_valid_keys};
-use content::lists::{bad_lists32, bad_lists64};
-use content::offsets::{bad_offsets32, bad_offsets64};
+use content::keys::{bad_keys, bad_keys_of, bad_valid_keys};
+use content::lists::bad_lists;
+use content::offsets::bad_offsets;
 use content::runs::bad_runs;
 use content::views::bad_views;
 use format::Kind;
-use pack::read::{child_rows, kind_of, node_at, node_count, table_start};
+use pack::read::{child_rows, node_at, node_count, table_start};
 
 // Whether a key of a valid row of dictionary i is not below its child's rows.
 fn bad_dictionary(pack: &[u8], i: u32) -> bool
@@ -43,26 +43,22 @@ fn bad_content(pack: &[u8], i: u32) -> bool
     let skip = n.skip as usize;
     let rows = n.rows as usize;
     let below = child_rows(pack, i);
-    match kind_of(n.kind) {
-        Kind::Bits => false,
-        Kind::Native => false,
-        Kind::Fixed => false,
-        Kind::Bytes32 => bad_offsets32(pack, at + 4 * skip, rows, n.second_length),
-        Kind::Bytes64 => bad_offsets64(pack, at + 8 * skip, rows, n.second_length),
+    match Kind::from(n.kind) {
+        Kind::Bytes32 => bad_offsets::<u32>(pack, at + 4 * skip, rows, n.second_length),
+        Kind::Bytes64 => bad_offsets::<u64>(pack, at + 8 * skip, rows, n.second_length),
         Kind::Views => {
             // the rows of the first data buffer: field 2 of the node behind this one
             let buffers = table_start(pack) as usize + 40 * (i as usize) + 48;
             bad_views(pack, at + 16 * skip, rows, n.kids, buffers)
         }
-        Kind::Lists32 => bad_lists32(pack, at + 4 * skip, second + 4 * skip, rows, below),
-        Kind::Lists64 => bad_lists64(pack, at + 8 * skip, second + 8 * skip, rows, below),
+        Kind::Lists32 => bad_lists::<u32>(pack, at + 4 * skip, second + 4 * skip, rows, below),
+        Kind::Lists64 => bad_lists::<u64>(pack, at + 8 * skip, second + 8 * skip, rows, below),
         Kind::Runs => bad_runs(pack, at, n.param, below as usize, n.skip + n.rows),
-        Kind::Struct => false,
-        Kind::Union => bad_keys8(pack, at + skip, rows, n.kids),
+        Kind::Union => bad_keys_of::<u8>(pack, at + skip, rows, n.kids),
         Kind::Dictionary => bad_dictionary(pack, i),
-        Kind::Nested32 => bad_offsets32(pack, at + 4 * skip, rows, below),
-        Kind::Nested64 => bad_offsets64(pack, at + 8 * skip, rows, below),
-        Kind::Unknown => false,
+        Kind::Nested32 => bad_offsets::<u32>(pack, at + 4 * skip, rows, below),
+        Kind::Nested64 => bad_offsets::<u64>(pack, at + 8 * skip, rows, below),
+        Kind::Bits | Kind::Native | Kind::Fixed | Kind::Struct | Kind::Unknown => false,
     }
 }
 
@@ -71,10 +67,5 @@ pub fn wrong_content(pack: &[u8]) -> bool
     requires { Laid pack.now }
     ensures { result ≡ wrong_content pack.now }
 {
-    let n = node_count(pack);
-    let mut bad = false;
-    for i in 0..n {
-        bad = bad | bad_content(pack, i);
-    }
-    bad
+    (0..node_count(pack)).any(|i| bad_content(pack, i))
 }

@@ -6,7 +6,7 @@ ghost use Rattle.format.specs.Verdict.{layout, misused, bad_fields, wrong_fields
 use format::Kind;
 use pack::Node;
 use pack::frame::carries_counts;
-use pack::read::{kind_of, node_at, node_count};
+use pack::read::{node_at, node_count};
 
 // Whether a node's fields are not those of its kind's row in the table of kinds. The row: whether it allows the param and the
 // kids; whether a bitmap may stand; whether first at, second at and second length are used. The last field is used where the pack carries counts.
@@ -40,18 +40,20 @@ fn bad_fields(pack: &[u8], i: u32) -> bool
     let n = node_at(pack, i);
     let p = n.param;
     let k = n.kids;
-    match kind_of(n.kind) {
+    match Kind::from(n.kind) {
         Kind::Bits => misfits(n, p == 0, k == 0, true, true, false, false, counts),
         Kind::Native => {
             let width = (p == 1) | (p == 2) | (p == 4) | (p == 8) | (p == 16) | (p == 32);
             misfits(n, width, k == 0, true, true, false, false, counts)
         }
         Kind::Fixed => misfits(n, p <= 1024, k == 0, true, true, false, false, counts),
-        Kind::Bytes32 => misfits(n, p == 0, k == 0, true, true, true, true, counts),
-        Kind::Bytes64 => misfits(n, p == 0, k == 0, true, true, true, true, counts),
+        Kind::Bytes32 | Kind::Bytes64 => {
+            misfits(n, p == 0, k == 0, true, true, true, true, counts)
+        }
         Kind::Views => misfits(n, p == 0, true, true, true, false, false, counts),
-        Kind::Lists32 => misfits(n, p == 0, k == 1, true, true, true, false, counts),
-        Kind::Lists64 => misfits(n, p == 0, k == 1, true, true, true, false, counts),
+        Kind::Lists32 | Kind::Lists64 => {
+            misfits(n, p == 0, k == 1, true, true, true, false, counts)
+        }
         Kind::Runs => {
             let width = (p == 2) | (p == 4) | (p == 8);
             misfits(n, width, k == 1, false, true, false, false, counts)
@@ -62,8 +64,9 @@ fn bad_fields(pack: &[u8], i: u32) -> bool
             let width = (p == 1) | (p == 2) | (p == 4) | (p == 8);
             misfits(n, width, k == 1, true, true, false, false, counts)
         }
-        Kind::Nested32 => misfits(n, p == 0, k == 1, true, true, false, false, counts),
-        Kind::Nested64 => misfits(n, p == 0, k == 1, true, true, false, false, counts),
+        Kind::Nested32 | Kind::Nested64 => {
+            misfits(n, p == 0, k == 1, true, true, false, false, counts)
+        }
         Kind::Unknown => true,
     }
 }
@@ -72,10 +75,5 @@ fn bad_fields(pack: &[u8], i: u32) -> bool
 pub fn wrong_fields(pack: &[u8]) -> bool
     ensures { result ≡ wrong_fields pack.now }
 {
-    let n = node_count(pack);
-    let mut bad = false;
-    for i in 0..n {
-        bad = bad | bad_fields(pack, i);
-    }
-    bad
+    (0..node_count(pack)).any(|i| bad_fields(pack, i))
 }

@@ -40,13 +40,5 @@ pub fn wrong_nulls(pack: &[u8]) -> bool
     requires { Laid pack.now }
     ensures { result ≡ wrong_nulls pack.now }
 {
-    if !carries_counts(pack) {
-        return false;
-    }
-    let n = node_count(pack);
-    let mut bad = false;
-    for i in 0..n {
-        bad = bad | wrong_count(pack, i);
-    }
-    bad
+    carries_counts(pack) && (0..node_count(pack)).any(|i| wrong_count(pack, i))
 }

@@ -1,8 +1,7 @@
 // Refusal 6: the row limit, the trailer's rows, the rows of the children of struct and union.
 ghost use Rattle.std.specs.Prelude.{◌≡◌, not, ◌&&◌, ◌||◌, eqb, ltb, ◌≤◌};
 ghost use Rattle.format.specs.Node.{node_count, rows, places, of_kind};
-ghost use Rattle.format.specs.Verdict.{any_node, any_child, bad_child_rows, wrong_rows};
-ghost use Rattle.pack.specs.Tree.{Parents};
+ghost use Rattle.format.specs.Verdict.{wrong_rows};
 
 use pack::read::{node_at, node_count, trailer_of};
 use pack::tree::parents_of;
@@ -18,18 +17,6 @@ fn too_many_rows(pack: &[u8], i: u32) -> bool
     ROW_LIMIT < n.skip as u64 + n.rows as u64
 }
 
-// The same of all nodes.
-fn any_too_many_rows(pack: &[u8], n: u32) -> bool
-    requires { n ≡ node_count pack.now }
-    ensures { result ≡ any_node pack.now (λ i. ltb 1_048_576 (places pack.now i)) }
-{
-    let mut bad = false;
-    for i in 0..n {
-        bad = bad | too_many_rows(pack, i);
-    }
-    bad
-}
-
 // Whether node i, a child of node p, is one of a struct or union and has other rows than it.
 fn other_rows(pack: &[u8], p: u32, i: u32) -> bool
     ensures { result ≡ ((of_kind 10 pack.now p || of_kind 11 pack.now p)
@@ -40,28 +27,15 @@ fn other_rows(pack: &[u8], p: u32, i: u32) -> bool
     ((above.kind == 10) | (above.kind == 11)) & (n.rows != above.rows)
 }
 
-// The same of all nodes below the root.
-fn any_other_rows(pack: &[u8], parents: &[u32; 64], n: u32) -> bool
-    requires { (n ≡ node_count pack.now) × (n ≤ 64) × Parents pack.now parents.now }
-    ensures { result ≡ any_child pack.now (bad_child_rows pack.now) }
-{
-    let mut bad = false;
-    for i in 0..n {
-        bad = bad | ((0 < i) & other_rows(pack, parents[i as usize], i));
-    }
-    bad
-}
-
-// 6, of all nodes.
+// 6, of all nodes; the second test of all below the root.
 pub fn wrong_rows(pack: &[u8]) -> bool
     requires { node_count pack.now ≤ 64 }
     ensures { result ≡ wrong_rows pack.now }
 {
     let n = node_count(pack);
-    let trailer = trailer_of(pack);
     let root = node_at(pack, 0);
     let parents = parents_of(pack);
-    let many = any_too_many_rows(pack, n);
-    let other = any_other_rows(pack, &parents, n);
-    many | (trailer.root_rows != root.rows) | other
+    let many = (0..n).any(|i| too_many_rows(pack, i));
+    let other = (1..n).any(|i| other_rows(pack, parents[i as usize], i));
+    many | (trailer_of(pack).root_rows != root.rows) | other
 }

@@ -1,13 +1,13 @@
 // Entries of kept rows taken straight from the mask, between two blocks of a selection. Asking for a block costs as much as the rows of a scattered
 // word, or a run of a hundred bytes; so after a block that was a word the words behind it are taken here, and after a run the runs.
 ghost use Rattle.std.specs.Prelude.{◌+◌, ◌*◌, ◌≤◌, length};
-ghost use Rattle.slots.specs.Source.{slot_of, Lies};
+ghost use Rattle.slots.specs.Slot.{slot_in};
 ghost use Rattle.predicate.specs.Selection.{InStep, Readable, kept_by, picks_on};
 ghost use Rattle.append.specs.Cells.{entries_of, Entries};
 ghost use Rattle.columns.specs.Words.{Ahead, Passed};
 
 use predicate::{Cursor, Selection};
-use slots::Bits;
+use slots::{Bits, Source};
 
 // The next place in the output, and the cursor behind the rows taken.
 #[derive(Clone, Copy)]
@@ -22,22 +22,20 @@ const STRETCH: usize = 16;
 
 // The mask's words from word `from` on, at the front of `words`, as many as it holds, up to one that goes better as runs or is among the last two:
 // how many.
-fn words_ahead(s: &[u8], mask: Bits, from: usize, words: &mut [u64]) -> usize
-    requires lies { Lies s.now mask }
-    requires from_bound { 64 * from ≤ mask.len }
-    ensures { Ahead (slot_of s.now mask) mask.len from words.new result }
+fn words_ahead(source: Source, from: usize, words: &mut [u64]) -> usize
+    requires { 64 * from ≤ source.bits.len }
+    ensures { Ahead (slot_in source.entry) source.entry.bits.len from words.new result }
 {
-    let len = mask.len;
-    let mut n: usize = 0;
-    while (n < words.len()) & (64 * (from + n) + 128 <= len) {
-        let x = slots::word_in(s, mask, from + n);
+    let whole = (source.bits.len / 64).saturating_sub(1);
+    let most = whole.saturating_sub(from).min(words.len());
+    for n in 0..most {
+        let x = source.word_in(from + n);
         if predicate::as_runs(x) {
-            break;
+            return n;
         }
         words[n] = x;
-        n += 1;
     }
-    n
+    most
 }
 
 // The entries of the kept rows from a word's start on, word after word, up to one that goes better as runs or is among the last two. None are
@@ -67,12 +65,16 @@ pub fn pass_words(
     if place % 64 != 0 {
         return Taken { next: at, cur };
     }
+    let source = Source {
+        bytes: s,
+        bits: mask,
+    };
     let index = cur.index;
     let mut here = at;
     let mut w = place / 64;
     let mut words = [0u64; STRETCH];
     loop {
-        let n = words_ahead(s, mask, w, &mut words);
+        let n = words_ahead(source, w, &mut words);
         if n == 0 {
             break;
         }
@@ -114,12 +116,16 @@ pub fn pass_runs(
     if !predicate::lazy(sel) {
         return Taken { next: at, cur };
     }
+    let source = Source {
+        bytes: s,
+        bits: mask,
+    };
     let len = mask.len;
     let index = cur.index;
     let mut here = at;
     let mut place = cur.place;
     while 64 * (place / 64) + 128 <= len {
-        let run = predicate::run_from(s, mask, place);
+        let run = predicate::run_from(source, place);
         if run.to < run.from + SHORT {
             break;
         }

@@ -2,7 +2,9 @@
 --     any-start, any-more, any-end     before the first turn; a turn, `bad | p i`; after the last
 --     any-ext, any-never               the same by other tests; by tests that never hold
 --     any-front, any-and               the first test by itself; a second test beside each
-use Rattle.std.proofs.Common.{◌≡◌, ℕ, zero, suc, ◌+◌, ◌<◌, ◌≤◌, Bool, false, ◌&&◌, ◌||◌, sym, refl, ap₂, arith}
+--     any-range                        the same by a chain over a range
+use Rattle.std.proofs.Common.{◌≡◌, ℕ, zero, suc, ◌+◌, ◌<◌, ◌≤◌, Bool, false, ◌&&◌, ◌||◌, sym, refl, ap, ◌∙◌, ap₂, add-zero, zero-add, arith}
+use Rattle.std.specs.List.{list_any, range_with_len}
 use mathlib.Core.Bool.{and-false, or-false, or_assoc}
 use Rattle.format.specs.Bytes.{any_below}
 use Rattle.format.proofs.Accepted.{or_left, or_right}
@@ -34,6 +36,15 @@ pub any-front : (p : ℕ → Bool) (n : ℕ) → any_below p (suc n) ≡ (p 0 ||
 unfolding any_below
 any-front p zero = sym (or-false (p 0))
 any-front p (suc n) = rw (any-front p n, or_assoc)
+
+any-from : (p : ℕ → Bool) (a n : ℕ) → list_any p (range_with_len a n) ≡ any_below (λ r. p (a + r)) n
+any-from p a zero = any-start (λ r. p (a + r))
+any-from p a (suc n) =
+    ap₂ ◌||◌ (ap p (sym (add-zero a))) (any-from p (a + 1) n ∙ any-ext _ _ n (λ r l. let e : a + 1 + r ≡ a + suc r = omega arith in rw e))
+    ∙ sym (any-front (λ r. p (a + r)) n)
+
+pub any-range : (p : ℕ → Bool) (n : ℕ) → list_any p (range_with_len 0 n) ≡ any_below p n
+any-range p n = any-from p 0 n ∙ any-ext _ _ n (λ r l. rw zero-add)
 
 pub any-and : (v p : ℕ → Bool) (n : ℕ) → any_below p n ≡ false → any_below (λ r. v r && p r) n ≡ false
 unfolding any_below

@@ -2,5 +2,5 @@
 pub mod Fold
 pub mod Tests
 pub mod Nodes
-pub mod Signs
+pub mod SignLaws
 pub mod ViewLaws

@@ -26,10 +26,6 @@ bad_key w b at limit r = nat_le limit (number w b at r)
 unfoldable pub bad_valid_key : ℕ → List ℕ → ℕ → ℕ → ℕ → ℕ → ℕ → Bool
 bad_valid_key w b at limit bits k r = bit_at b bits (k + r) && bad_key w b at limit r
 
--- number r + 1 is negative or not above number r
-unfoldable pub stalls : ℕ → List ℕ → ℕ → ℕ → Bool
-stalls w b at r = negative w (number w b at (suc r)) || nat_le (number w b at (suc r)) (number w b at r)
-
 -- where run j starts: at the end before it, 0 for the first
 unfoldable pub start_at : ℕ → List ℕ → ℕ → ℕ → ℕ
 start_at w b at zero = 0

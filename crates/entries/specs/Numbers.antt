@@ -1,42 +1,35 @@
 -- An answer as numbers: what a C caller reads, for every case of the answer. Assumes nothing.
-use Rattle.std.specs.Prelude.{ℕ, List, [], ◌∷◌, ◌≡◌}
-use Rattle.format.specs.declared.Pack.{Pack}
-use Rattle.format.specs.declared.Pack.TheVariants.{Mask, Journal}
-use Rattle.format.specs.declared.Answer.{Answer}
-use Rattle.format.specs.declared.Answer.TheVariants as told
-use Rattle.format.specs.declared.Prepared.{Prepared}
-use Rattle.format.specs.declared.Prepared.TheVariants.{Ready, Refused}
+use Rattle.std.specs.Prelude.{ℕ, List, [], ◌∷◌, ◌≡◌, Result, Ok, Err}
+use Rattle.format.specs.declared.Done.{Done}
+use Rattle.format.specs.declared.Ready.{Ready}
+use Rattle.format.specs.declared.Refused.{Refused}
 use Rattle.format.specs.Mask.{route_number}
+use Rattle.format.specs.Reason.{reason_number}
+use Rattle.format.specs.Names.{pack_number}
 use Rattle.format.specs.Answer.{Call, answer, output_after, list_after, scratch_after, prepared, prepared_list}
 
--- the pack that a refusal names
-abbrev pub pack_number : Pack → ℕ
-pack_number Mask = 0
-pack_number Journal = 1
+-- the number of the refusal, 0 if there is none
+abbrev pub refusal_number : {T : Type 0} → Result T Refused → ℕ
+refusal_number (Ok given) = 0
+refusal_number (Err refused) = reason_number refused.reason
 
--- the slip's number, 0 if there is none; and the four numbers of the answer
-abbrev pub slip_of : Prepared → ℕ
-slip_of (Ready kept slots route) = 0
-slip_of (Refused number pack) = number
+-- the four numbers of a refusal; of the answer of a mask prepared alone; and of that of a whole call
+abbrev pub refusal_numbers : Refused → List ℕ
+refusal_numbers refused = reason_number refused.reason ∷ pack_number refused.pack ∷ 0 ∷ 0 ∷ []
 
-abbrev pub in_numbers : Prepared → List ℕ
-in_numbers (Ready kept slots route) = kept ∷ slots ∷ route_number route ∷ 0 ∷ []
-in_numbers (Refused number pack) = number ∷ pack_number pack ∷ 0 ∷ 0 ∷ []
+abbrev pub in_numbers : Result Ready Refused → List ℕ
+in_numbers (Ok ready) = ready.kept ∷ ready.slots ∷ route_number ready.route ∷ 0 ∷ []
+in_numbers (Err refused) = refusal_numbers refused
+
+abbrev pub answer_numbers : Result Done Refused → List ℕ
+answer_numbers (Ok done) = done.kept ∷ done.slots ∷ route_number done.route ∷ done.bytes ∷ []
+answer_numbers (Err refused) = refusal_numbers refused
 
 -- a mask prepared: the number returned, the answer, and the list
 pub record Entered (c : Call) (r : ℕ) (answer list : List ℕ) : Type 0 where
-  pub slip : r ≡ slip_of (prepared c)
+  pub slip : r ≡ refusal_number (prepared c)
   pub numbers : answer ≡ in_numbers (prepared c)
   pub listed : list ≡ prepared_list c
-
--- the same of a whole call
-abbrev pub refusal_number : Answer → ℕ
-refusal_number (told.Done kept slots route bytes) = 0
-refusal_number (told.Refused number pack) = number
-
-abbrev pub answer_numbers : Answer → List ℕ
-answer_numbers (told.Done kept slots route bytes) = kept ∷ slots ∷ route_number route ∷ bytes ∷ []
-answer_numbers (told.Refused number pack) = number ∷ pack_number pack ∷ 0 ∷ 0 ∷ []
 
 -- a call answered: the number returned, the four numbers, and output, list and scratch
 pub record Called (c : Call) (r : ℕ) (numbers output list scratch : List ℕ) : Type 0 where

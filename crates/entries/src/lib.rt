@@ -2,33 +2,52 @@
 #![tactic(auto)]
 
 ghost use Rattle.std.specs.Prelude.{◌≡◌};
-ghost use Rattle.format.specs.Answer.{call_of, preparing, stated_if};
+ghost use Rattle.std.specs.Bool.{then_some};
+ghost use Rattle.format.specs.Answer.{call_of, preparing};
+ghost use Rattle.format.specs.Reason.{verdict_number};
 ghost use Rattle.format.specs.Verdict.{journal_verdict, mask_verdict};
-ghost use Rattle.entries.specs.Numbers.{pack_number, in_numbers, slip_of, Entered, answer_numbers, refusal_number, Called};
+ghost use Rattle.entries.specs.Numbers.{in_numbers, Entered, answer_numbers, refusal_numbers, refusal_number, Called};
 
-use format::{Answer, Pack, Prepared};
+use format::{Answer, Done, Prepared, Ready, Reason, Refused};
+
+// A verdict's number: 0 where the pack is accepted.
+fn verdict_number(verdict: Result<(), Reason>) -> u64
+    ensures { result ≡ verdict_number verdict }
+{
+    match verdict {
+        Ok(()) => 0,
+        Err(reason) => u64::from(reason),
+    }
+}
 
 // The verdict on a journal: 0 if it is accepted, else 1 to 8 or 20.
 pub fn check(bytes: &[u8]) -> u64
     ensures { result ≡ journal_verdict bytes.now }
 {
-    checker::check(bytes)
+    verdict_number(checker::check(bytes))
 }
 
 // The verdict on a mask: 0 if it is accepted, else 1 to 9 or 20.
 pub fn check_mask(bytes: &[u8]) -> u64
     ensures { result ≡ mask_verdict bytes.now }
 {
-    checker::check_mask(bytes)
+    verdict_number(checker::check_mask(bytes))
 }
 
-// The number of the pack that a refusal names.
-fn pack_number(pack: Pack) -> u64
-    ensures { result ≡ pack_number pack }
+// A refusal as four numbers: its own, the pack's, and zeros.
+fn refusal_numbers(refused: Refused) -> [u64; 4]
+    ensures { result ≡ refusal_numbers refused }
 {
-    match pack {
-        Pack::Mask => 0,
-        Pack::Journal => 1,
+    [u64::from(refused.reason), u64::from(refused.pack), 0, 0]
+}
+
+// The number of the refusal, 0 if there is none.
+fn refusal_number<T: Drop>(answer: Result<T, Refused>) -> u64
+    ensures { result ≡ refusal_number answer }
+{
+    match answer {
+        Ok(_) => 0,
+        Err(refused) => u64::from(refused.reason),
     }
 }
 
@@ -37,22 +56,8 @@ fn in_numbers(answer: Prepared) -> [u64; 4]
     ensures { result ≡ in_numbers answer }
 {
     match answer {
-        Prepared::Ready { kept, slots, route } => [kept, slots, route.number(), 0],
-        Prepared::Refused { number, pack } => [number, pack_number(pack), 0, 0],
-    }
-}
-
-// The slip's number, 0 if there is none.
-fn slip_of(answer: Prepared) -> u64
-    ensures { result ≡ slip_of answer }
-{
-    match answer {
-        Prepared::Ready {
-            kept: _,
-            slots: _,
-            route: _,
-        } => 0,
-        Prepared::Refused { number, pack: _ } => number,
+        Ok(Ready { kept, slots, route }) => [kept, slots, u64::from(route), 0],
+        Err(refused) => refusal_numbers(refused),
     }
 }
 
@@ -65,11 +70,11 @@ pub fn prepare(
     list: &mut [u32],
     answer: &mut [u64; 4],
 ) -> u64
-    ensures { Entered (preparing mask.now (stated_if stated count) asked list.old) result answer.new list.new }
+    ensures { Entered (preparing mask.now (then_some stated count) asked list.old) result answer.new list.new }
 {
-    let prepared = prepare::prepare(mask, stated, count, asked, list);
+    let prepared = prepare::prepare(mask, stated.then_some(count), asked, list);
     *answer = in_numbers(prepared);
-    slip_of(prepared)
+    refusal_number(prepared)
 }
 
 // The answer of a whole call as four numbers.
@@ -77,28 +82,15 @@ fn answer_numbers(told: Answer) -> [u64; 4]
     ensures { result ≡ answer_numbers told }
 {
     match told {
-        Answer::Done {
-            kept,
-            slots,
-            route,
-            bytes,
-        } => [kept, slots, route.number(), bytes],
-        Answer::Refused { number, pack } => [number, pack_number(pack), 0, 0],
-    }
-}
-
-// The number of the refusal, 0 if there is none.
-fn refusal_number(told: Answer) -> u64
-    ensures { result ≡ refusal_number told }
-{
-    match told {
-        Answer::Done {
-            kept: _,
-            slots: _,
-            route: _,
-            bytes: _,
-        } => 0,
-        Answer::Refused { number, pack: _ } => number,
+        Ok(
+            Done {
+                kept,
+                slots,
+                route,
+                bytes,
+            },
+        ) => [kept, slots, u64::from(route), bytes],
+        Err(refused) => refusal_numbers(refused),
     }
 }
 
@@ -114,10 +106,18 @@ pub fn filter(
     output: &mut [u8],
     answer: &mut [u64; 4],
 ) -> u64
-    ensures { Called (call_of mask.now journal.now (stated_if stated count) asked list.old scratch.old output.old)
+    ensures { Called (call_of mask.now journal.now (then_some stated count) asked list.old scratch.old output.old)
         result answer.new output.new list.new scratch.new }
 {
-    let told = filter::filter(mask, journal, stated, count, asked, list, scratch, output);
+    let told = filter::filter(
+        mask,
+        journal,
+        stated.then_some(count),
+        asked,
+        list,
+        scratch,
+        output,
+    );
     *answer = answer_numbers(told);
     refusal_number(told)
 }

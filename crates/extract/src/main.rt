@@ -1,10 +1,11 @@
 // The program `extract`: mask.pack and journal.pack of the working directory in, out.pack and one line out (docs/FORMAT.md, 10).
 #![tactic(auto)]
 
-ghost use Rattle.std.specs.Prelude.{◌≤◌, length};
+ghost use Rattle.std.specs.Prelude.{◌≤◌, length, IfOk};
 
 use format::Answer;
 use reading::read_full;
+use report::Line;
 use std::io::Read;
 use std::rt::Files;
 use std::{fs, io};
@@ -19,65 +20,38 @@ const OUTPUT_ROOM: usize = 32_768;
 
 const SCRATCH_ROOM: usize = 16_384;
 
-// The bytes of an open file, as many as `into` holds, at its front; gives how many, or none if a read fails.
-fn load_from(file: &mut impl Read, into: &mut [u8]) -> usize
-    ensures { result ≤ length into.old }
+// The bytes of a file, as many as `into` holds, at its front; gives how many.
+fn load(rt: &impl Files, path: &str, into: &mut [u8]) -> io::Result<usize>
+    ensures { IfOk result (λ n. n ≤ length into.old) }
 {
-    let n = read_full(file, into);
+    let mut file = fs::open(rt, path)?;
+    let n = read_full(&mut file, into);
     // `read_full` stops at the end and at an error alike: one more read tells which
-    let mut more = [0u8; 1];
-    match file.read(&mut more) {
-        Ok(_) => n,
-        Err(_) => 0,
-    }
-}
-
-// The bytes of a file, as many as `into` holds, at its front; gives how many. A file that cannot be read counts as empty.
-fn load(rt: &impl Files, path: &str, into: &mut [u8]) -> usize
-    ensures { result ≤ length into.old }
-{
-    match fs::open(rt, path) {
-        Ok(mut file) => load_from(&mut file, into),
-        Err(_) => 0,
-    }
-}
-
-// The bytes as the file's content; an error if not all could be written.
-fn save(rt: &impl Files, path: &str, bytes: &[u8]) -> io::Result<()> {
-    fs::write(rt, path, bytes)
+    file.read(&mut [0u8; 1])?;
+    Ok(n)
 }
 
 // The line of an answer, on standard output. A write that fails is passed over.
 fn say(rt: &impl Print, answer: Answer) {
-    let mut line = [0u8; 128];
-    let n = report::line_of(answer, &mut line);
-    let _ = rt.write_all(&line[..n]);
+    let _ = rt.print(Line(answer));
 }
 
 // One call with no list and no stated count: the extract into out.pack if it is not refused, and the line.
 fn run(rt: &(impl Files + Print + Eprint), mask: &[u8], journal: &[u8]) {
-    let mut list = [0u32; 1];
     let mut scratch = [0u8; SCRATCH_ROOM];
     let mut output = [0u8; OUTPUT_ROOM];
     let answer = filter::filter(
         mask,
         journal,
+        None,
         false,
-        0,
-        false,
-        &mut list[..0],
+        &mut [],
         &mut scratch,
         &mut output,
     );
-    if let Answer::Done {
-        kept: _,
-        slots: _,
-        route: _,
-        bytes,
-    } = answer
-    {
-        let size = bytes as usize;
-        if let Err(error) = save(rt, "out.pack", &output[..size]) {
+    if let Ok(done) = answer {
+        let size = done.bytes as usize;
+        if let Err(error) = fs::write(rt, "out.pack", &output[..size]) {
             let _ = eprintln!(rt; "out.pack: {error}");
             return;
         }
@@ -85,13 +59,14 @@ fn run(rt: &(impl Files + Print + Eprint), mask: &[u8], journal: &[u8]) {
     say(rt, answer);
 }
 
+// A file that cannot be read counts as empty.
 fn main(rt: HostRuntime) {
     let mut mask = [0u8; FILE_ROOM];
     let mut journal = [0u8; FILE_ROOM];
-    let m = load(&rt, "mask.pack", &mut mask);
-    let j = load(&rt, "journal.pack", &mut journal);
+    let m = load(&rt, "mask.pack", &mut mask).unwrap_or(0);
+    let j = load(&rt, "journal.pack", &mut journal).unwrap_or(0);
     if m > FILE_LIMIT || j > FILE_LIMIT {
-        let _ = rt.write_all(b"too large\n");
+        let _ = println!(rt; "too large");
         return;
     }
     run(&rt, &mask[..m], &journal[..j]);

@@ -22,6 +22,7 @@ use Rattle.nesting.specs.Rows.{keeps, by_offsets, picks_of, Sifted, Ready, Nodes
 use Rattle.nesting.proofs.ByKind.{kind_at, rows_at, rows-small}
 use Rattle.nesting.proofs.Direct.{level-not}
 use Rattle.nesting.proofs.Levels.{up, parent-few}
+use Rattle.std.proofs.lemmas.Option.{none-some}
 use Rattle.nesting.proofs.Scratch.{takes_one}
 use Rattle.nesting.proofs.Tree.{kept-sifted, kept-all}
 use Rattle.fill.specs.Scratch.{Bitmap, plain_bits, takes_bitmap, Earlier}
@@ -35,7 +36,7 @@ module _ {t : ℕ → Bool} {n : ℕ} {s : List ℕ} {at : ℕ} (map : Bitmap t 
   plain-picks = picks-ext _ _ n 0 (λ j _ l. slot-told j (omega arith)) ∙ sym (chosen-picks t n)
 
   pub plain-lies : length s < 2 ^ 60 → Lies s (plain_bits at n)
-  plain-lies small = record { small = small; values = omega (arith, map.inside); validity = λ e. absurd (false≢true e) }
+  plain-lies small = record { small = small; values = omega (arith, map.inside); validity = λ at e. absurd (none-some at e) }
 
 -- it is read in the front of the slice in which it ends
 front-bit : (s : List ℕ) (end k : ℕ) → k < 8 * end → bit_in (take end s) k ≡ bit_in s k

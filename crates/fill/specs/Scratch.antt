@@ -1,5 +1,5 @@
 -- The bitmaps of kept rows in scratch: for the child of each runs node and list, which of its rows are kept. Assumes nothing.
-use Rattle.std.specs.Prelude.{ℕ, suc, ◌+◌, ◌*◌, ◌^◌, ◌≤◌, ◌<◌, Bool, true, false, not, ◌&&◌, List, ◌≡◌, length, get_or}
+use Rattle.std.specs.Prelude.{ℕ, suc, ◌+◌, ◌*◌, ◌^◌, ◌≤◌, ◌<◌, Bool, true, false, not, ◌&&◌, List, ◌≡◌, length, get_or, None}
 use Rattle.format.specs.Bytes.{bit_in}
 use Rattle.format.specs.Node.{node_count, rows, parent}
 use Rattle.format.specs.Answer.{takes_scratch, scratch_needed}
@@ -15,7 +15,7 @@ pub record Bitmap (t : ℕ → Bool) (n : ℕ) (s : List ℕ) (at end : ℕ) : T
 
 -- the bits of n rows from byte `at` on, with no validity bitmap
 abbrev pub plain_bits : ℕ → ℕ → Bits
-plain_bits at n = record { values_at = at; has_validity = false; validity_at = 0; skip = 0; len = n }
+plain_bits at n = record { values_at = at; validity = None; skip = 0; len = n }
 
 -- node i is a runs node or list of an accepted journal whose node table is at hand
 pub record Taking (b table : List ℕ) (i : ℕ) : Type 0 where

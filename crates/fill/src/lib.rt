@@ -25,8 +25,7 @@ pub fn plain_bits(at: usize, len: usize) -> Bits
 {
     Bits {
         values_at: at,
-        has_validity: false,
-        validity_at: 0,
+        validity: None,
         skip: 0,
         len,
     }
@@ -143,9 +142,5 @@ pub fn clear(scratch: &mut [u8], n: usize)
     requires { n ≤ length scratch.old }
     ensures { scratch.new ≡ over (replicate n 0) scratch.old }
 {
-    let mut j: usize = 0;
-    while j < n {
-        scratch[j] = 0;
-        j += 1;
-    }
+    scratch[..n].fill(0);
 }

@@ -7,8 +7,10 @@ use mathlib.Core.List.{List}
 use borrow.Fn.Kinds.{Dens, res_t, ended_of}
 use contract.Lifetimes.{Lfts}
 use denote.Triple.Clauses.{AtExit}
-use Rattle.format.specs.declared.Answer.{Answer}
-use Rattle.format.specs.Answer.{Call, call_of, stated_if, Returned}
+use Rattle.std.proofs.Common.{Option, Result}
+use Rattle.format.specs.declared.Done.{Done}
+use Rattle.format.specs.declared.Refused.{Refused}
+use Rattle.format.specs.Answer.{Call, call_of, Returned}
 use Rattle.format.proofs.Demand3 as format
 use Rattle.format.proofs.Demand3.{Alike, Seen, Same}
 use Rattle.filter.proofs.filter.Kinds as has
@@ -18,20 +20,19 @@ use Rattle.filter.proofs.filter.Reads as promise
 pub record Filtered : Type 0 where
   pub mask : List ℕ
   pub journal : List ℕ
-  pub states : Bool
-  pub stated : ℕ
+  pub stated : Option ℕ
   pub asked : Bool
   pub list : List ℕ
   pub scratch : List ℕ
   pub output : List ℕ
-  pub answer : Answer
+  pub answer : Result Done Refused
   pub output_after : List ℕ
   pub list_after : List ℕ
   pub scratch_after : List ℕ
-  pub ensures : Returned (call_of mask journal (stated_if states stated) asked list scratch output) answer output_after list_after scratch_after
+  pub ensures : Returned (call_of mask journal stated asked list scratch output) answer output_after list_after scratch_after
 
 abbrev pub call : Filtered → Call
-call f = call_of f.mask f.journal (stated_if f.states f.stated) f.asked f.list f.scratch f.output
+call f = call_of f.mask f.journal f.stated f.asked f.list f.scratch f.output
 
 -- any call of `filter` is one: nothing is taken of the function but what its contract ensures of arguments a, answer r and buffers s at return
 pub of-contract : (κs : Lfts 5) (a : Dens κs has.ps) (r : (res_t has.r κs).Denot) (s : AtExit (ended_of 5 has.ps has.r) κs) → promise.Learnt κs a r s → Filtered
@@ -39,16 +40,15 @@ of-contract κs a r s e =
     record {
       mask = a.0.now;
       journal = a.1.0.now;
-      states = a.1.1.0;
-      stated = a.1.1.1.0;
-      asked = a.1.1.1.1.0;
-      list = a.1.1.1.1.1.0.now;
-      scratch = a.1.1.1.1.1.1.0.now;
-      output = a.1.1.1.1.1.1.1.0.now;
+      stated = a.1.1.0;
+      asked = a.1.1.1.0;
+      list = a.1.1.1.1.0.now;
+      scratch = a.1.1.1.1.1.0.now;
+      output = a.1.1.1.1.1.1.0.now;
       answer = r;
-      output_after = s.1.1.1.1.1.1.1.0.now;
-      list_after = s.1.1.1.1.1.0.now;
-      scratch_after = s.1.1.1.1.1.1.0.now;
+      output_after = s.1.1.1.1.1.1.0.now;
+      list_after = s.1.1.1.1.0.now;
+      scratch_after = s.1.1.1.1.1.0.now;
       ensures = e;
     }
 
@@ -64,6 +64,5 @@ seen f =
       listed = f.ensures.listed;
     }
 
--- `call f` holds a count only if one is stated: two calls that state none may be passed any two numbers in its place
 pub demand3 : (f g : Filtered) → Alike (call f) (call g) → Same (seen f) (seen g)
 demand3 f g h = format.demand3 (call f) (call g) h (seen f) (seen g)

@@ -1,5 +1,6 @@
 -- Each way in which a call ends, by the tests that led there. Assumes nothing.
-use Prim.Native.Nat.{ℕ, zero, suc, ◌≤◌, ◌<◌}
+use Prim.Native.Nat.{ℕ, ◌≤◌, ◌<◌}
+use Rattle.std.proofs.Common.{Option, None, Result, Err}
 use mathlib.Core.Bool.{Bool, true, false, cond, ◌&&◌, ◌||◌}
 use mathlib.Core.List.{List, [], ◌++◌}
 use mathlib.Core.Path.{◌≡◌, refl, sym, ap, ◌∙◌}
@@ -10,8 +11,9 @@ use lib.ListN.{length, drop, replicate, length-replicate}
 use Rattle.format.specs.declared.Route.{Route}
 use Rattle.format.specs.declared.Pack.{Pack}
 use Rattle.format.specs.declared.Pack.TheVariants.{Mask, Journal}
-use Rattle.format.specs.declared.Answer.{Answer}
-use Rattle.format.specs.declared.Answer.TheVariants.{Done, Refused}
+use Rattle.format.specs.declared.Reason.TheVariants as reason
+use Rattle.format.specs.declared.Done.{Done}
+use Rattle.format.specs.declared.Refused.{Refused}
 use Rattle.format.specs.Bytes.{over}
 use Rattle.format.specs.Node.{node_count, rows}
 use Rattle.format.specs.Mask as Masks
@@ -20,10 +22,11 @@ use Rattle.format.specs.Verdict.{mask_verdict, journal_verdict, pack_limit}
 use Rattle.format.specs.Write.{extract}
 use Rattle.format.specs.Accepted.{Sound}
 use Rattle.format.specs.Refusal.{Refusal, unrefused, refused_by}
-use Rattle.format.specs.Answer.{Stated, unstated, Call, call_of, Returned, refusal_of, answer, answer_at, output_after, list_after, scratch_after}
+use Rattle.format.specs.Answer.{done_with, refused_for, own_answer, Call, call_of, Returned, refusal_of, answer, answer_at, output_after, list_after, scratch_after}
 use Rattle.format.specs.Answer.{wrong_count, too_long, list_short, scratch_short, output_short, extract_of, stores, scratch_needed}
 use Rattle.format.proofs.Accepted.{sound}
-use Rattle.format.proofs.Returns.{returned-refused, returned-done, mask-refused, count-refused, journal-refused, length-refused, list-refused, scratch-refused, output-refused, not-refused}
+use Rattle.format.proofs.Returns.{returned-own, returned-refused, returned-done, mask-refused, count-refused, journal-refused, length-refused, list-refused, scratch-refused, output-refused, not-refused}
+use Rattle.format.proofs.Reasons.{own_answer-err}
 use Rattle.format.proofs.SlotLaws.{chosen-picks}
 use Rattle.pack.specs.Tree.{Parents}
 use Rattle.pack.proofs.Stack.{holds-none}
@@ -39,26 +42,26 @@ use Rattle.filter.specs.Call.{Accepted, Listed, Roomy}
 
 -- ---- a count that is not stated is not wrong
 
-pub right-unstated : (n : ℕ) → wrong_count unstated n ≡ false
+pub right-unstated : (n : ℕ) → wrong_count None n ≡ false
 unfolding wrong_count
 right-unstated n = refl
 
 -- where the stated count is right, the call ends as one that states none
-module _ (m j : List ℕ) (st : Stated) (asked : Bool) (list scratch output : List ℕ) (right : wrong_count st (count m) ≡ false) where
-  same-refusal : refusal_of (call_of m j st asked list scratch output) ≡ refusal_of (call_of m j unstated asked list scratch output)
+module _ (m j : List ℕ) (st : Option ℕ) (asked : Bool) (list scratch output : List ℕ) (right : wrong_count st (count m) ≡ false) where
+  same-refusal : refusal_of (call_of m j st asked list scratch output) ≡ refusal_of (call_of m j None asked list scratch output)
   unfolding refusal_of wrong_count too_long list_short scratch_short extract_of
   same-refusal = rw right
 
-  same_answer : (f : Refusal Pack) → answer_at f (call_of m j unstated asked list scratch output) ≡ answer_at f (call_of m j st asked list scratch output)
+  same_answer : (f : Refusal Pack) → answer_at f (call_of m j None asked list scratch output) ≡ answer_at f (call_of m j st asked list scratch output)
   unfolding answer_at extract_of
   same_answer unrefused = refl
   same_answer (refused_by n p) = refl
 
-  pub restated : {r : Answer} {o l s : List ℕ} → Returned (call_of m j unstated asked list scratch output) r o l s → Returned (call_of m j st asked list scratch output) r o l s
+  pub restated : {r : Result Done Refused} {o l s : List ℕ} → Returned (call_of m j None asked list scratch output) r o l s → Returned (call_of m j st asked list scratch output) r o l s
   unfolding answer output_after list_after scratch_after extract_of stores
   restated f =
       record {
-        answered = rw same-refusal (f.answered ∙ same_answer (refusal_of (call_of m j unstated asked list scratch output)));
+        answered = rw same-refusal (f.answered ∙ same_answer (refusal_of (call_of m j None asked list scratch output)));
         written = rw same-refusal f.written;
         listed = rw same-refusal f.listed;
         cleared = rw same-refusal f.cleared;
@@ -66,18 +69,16 @@ module _ (m j : List ℕ) (st : Stated) (asked : Bool) (list scratch output : Li
 
 -- ---- the packs' own refusals, and 11
 
-pub mask-bad : (c : Call) (n : ℕ) → n ≡ mask_verdict c.mask → 0 < n → Returned c (Refused n Mask) c.output c.list c.scratch
-mask-bad c zero v h = absurd (omega arith)
-mask-bad c (suc n) v h = returned-refused c (suc n) Mask (mask-refused c n (sym v))
+pub mask-bad : (c : Call) {f : Refused} → Err f ≡ own_answer Mask (mask_verdict c.mask) → Returned c (Err f) c.output c.list c.scratch
+mask-bad c e = let own = own_answer-err _ e in rw own.1 (returned-own c _ Mask (mask-refused c own.0))
 
 module _ (c : Call) (m : mask_verdict c.mask ≡ 0) where
-  pub miscounted : wrong_count c.states (count c.mask) ≡ true → Returned c (Refused 11 Mask) c.output c.list c.scratch
-  miscounted e = returned-refused c 11 Mask (count-refused c m e)
+  pub miscounted : wrong_count c.stated (count c.mask) ≡ true → Returned c (refused_for reason.Count Mask) c.output c.list c.scratch
+  miscounted e = returned-refused c reason.Count Mask (count-refused c m e)
 
-  pub journal-bad : wrong_count c.states (count c.mask) ≡ false → (n : ℕ) → n ≡ journal_verdict c.journal → 0 < n
-      → Returned c (Refused n Journal) c.output c.list c.scratch
-  journal-bad k zero v h = absurd (omega arith)
-  journal-bad k (suc n) v h = returned-refused c (suc n) Journal (journal-refused c m k n (sym v))
+  pub journal-bad : wrong_count c.stated (count c.mask) ≡ false → {f : Refused} → Err f ≡ own_answer Journal (journal_verdict c.journal)
+      → Returned c (Err f) c.output c.list c.scratch
+  journal-bad k e = let own = own_answer-err _ e in rw own.1 (returned-own c _ Journal (journal-refused c m k own.0))
 
 -- ---- both packs are accepted: 10 and 12
 
@@ -86,17 +87,17 @@ module _ {c : Call} {bits : Bits} {kept : ℕ} (f : Accepted c bits kept) where
   unfolding mask_length
   length-is = rw f.mask.bits
 
-  pub long-mask : {n : ℕ} → n ≡ rows c.journal 0 → n < bits.len → Returned c (Refused 10 Journal) c.output c.list c.scratch
+  pub long-mask : {n : ℕ} → n ≡ rows c.journal 0 → n < bits.len → Returned c (refused_for reason.TooLong Journal) c.output c.list c.scratch
   unfolding too_long
-  long-mask e h = returned-refused c 10 Journal (length-refused c f.mask.accepted f.right f.journal (lt-ltb (rows c.journal 0) (mask_length c.mask) (omega (arith, length-is))))
+  long-mask e h = returned-refused c reason.TooLong Journal (length-refused c f.mask.accepted f.right f.journal (lt-ltb (rows c.journal 0) (mask_length c.mask) (omega (arith, length-is))))
 
   pub not-long : {n : ℕ} → n ≡ rows c.journal 0 → bits.len ≤ n → too_long c ≡ false
   unfolding too_long
   not-long e h = le-ltb (rows c.journal 0) (mask_length c.mask) (omega (arith, length-is))
 
-  pub short-list : {t : Bool} → too_long c ≡ false → t ≡ (c.asked && ltb (length c.list) (length (entries c.mask))) → t ≡ true → Returned c (Refused 12 Journal) c.output c.list c.scratch
+  pub short-list : {t : Bool} → too_long c ≡ false → t ≡ (c.asked && ltb (length c.list) (length (entries c.mask))) → t ≡ true → Returned c (refused_for reason.List Journal) c.output c.list c.scratch
   unfolding list_short
-  short-list l q e = returned-refused c 12 Journal (list-refused c f.mask.accepted f.right f.journal l (sym q ∙ e))
+  short-list l q e = returned-refused c reason.List Journal (list-refused c f.mask.accepted f.right f.journal l (sym q ∙ e))
 
   pub route-is : {r : Route} → r ≡ Masks.route_of bits.len kept → r ≡ Masks.route c.mask
   unfolding Masks.route mask_length
@@ -140,11 +141,11 @@ module _ {c : Call} {bits : Bits} {kept : ℕ} {route : Route} (f : Listed c bit
   unfolding extract_of
   extract-is = ap (extract c.journal) picks-are
 
-  pub short-scratch : {need : ℕ} → need ≡ scratch_needed c.journal → length c.scratch < need → Returned c (Refused 13 Journal) c.output c.list c.scratch
+  pub short-scratch : {need : ℕ} → need ≡ scratch_needed c.journal → length c.scratch < need → Returned c (refused_for reason.Scratch Journal) c.output c.list c.scratch
   unfolding scratch_short
   short-scratch e h =
       let a = f.accepted in
-      returned-refused c 13 Journal (scratch-refused c a.mask.accepted a.right a.journal f.fits f.roomy (lt-ltb (length c.scratch) (scratch_needed c.journal) (omega arith)))
+      returned-refused c reason.Scratch Journal (scratch-refused c a.mask.accepted a.right a.journal f.fits f.roomy (lt-ltb (length c.scratch) (scratch_needed c.journal) (omega arith)))
 
   module _ {need size : ℕ} (en : need ≡ scratch_needed c.journal) (fills : need ≤ length c.scratch) (es : size ≡ length (extract c.journal (picks_of c.mask bits))) where
     not_short : scratch_short c ≡ false
@@ -154,10 +155,10 @@ module _ {c : Call} {bits : Bits} {kept : ℕ} {route : Route} (f : Listed c bit
     size_is : size ≡ length (extract_of c)
     size_is = es ∙ ap length extract-is
 
-    pub short-output : output_short (length c.output) size ≡ true → Returned c (Refused 14 Journal) c.output c.list c.scratch
+    pub short-output : output_short (length c.output) size ≡ true → Returned c (refused_for reason.Output Journal) c.output c.list c.scratch
     short-output e =
         let a = f.accepted in
-        returned-refused c 14 Journal (output-refused c a.mask.accepted a.right a.journal f.fits f.roomy not_short (rw size_is at e))
+        returned-refused c reason.Output Journal (output-refused c a.mask.accepted a.right a.journal f.fits f.roomy not_short (rw size_is at e))
 
     fine : output_short (length c.output) size ≡ false → refusal_of c ≡ unrefused
     fine e = let a = f.accepted in not-refused c a.mask.accepted a.right a.journal f.fits f.roomy not_short (rw size_is at e)
@@ -196,7 +197,7 @@ module _ {c : Call} {bits : Bits} {kept : ℕ} {route : Route} {table parents co
 
   -- the extract, the list and zeros over the fronts of what was lent
   pub done : {o l s : List ℕ} → o ≡ extract c.journal (picks_of c.mask bits) → l ≡ over (cond c.asked (entries c.mask) []) c.list → s ≡ replicate need 0
-      → Returned c (Done kept bits.len route size) (o ++ drop size c.output) l (s ++ drop need c.scratch)
+      → Returned c (done_with kept bits.len route size) (o ++ drop size c.output) l (s ++ drop need c.scratch)
   unfolding over stores
   done eo el es =
       let a = f.listed in

@@ -14,7 +14,7 @@ use Rattle.nesting.specs.Rows.{picks_of, Ready}
 -- mask and journal are accepted and the count is right
 pub record Accepted (c : Call) (bits : Bits) (kept : ℕ) : Type 0 where
   pub mask : Counted c.mask bits kept
-  pub right : wrong_count c.states (count c.mask) ≡ false
+  pub right : wrong_count c.stated (count c.mask) ≡ false
   pub journal : journal_verdict c.journal ≡ 0
 
 -- the mask is not longer than the journal, and the list not short

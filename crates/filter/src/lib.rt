@@ -4,18 +4,19 @@
 ghost use Rattle.std.specs.Prelude.{◌≡◌, ◌&&◌, ltb, length};
 ghost use Rattle.format.specs.Mask.{route_of, entries};
 ghost use Rattle.format.specs.Verdict.{mask_verdict};
-ghost use Rattle.format.specs.Answer.{unstated, stated_if, call_of, output_short, Returned};
+ghost use Rattle.format.specs.Answer.{call_of, output_short, Returned};
 ghost use Rattle.prepare.specs.Prepare.{Counted};
 ghost use Rattle.filter.specs.Call.{Accepted, Listed, Roomy};
 
-use format::{Answer, Pack, Route};
+use checker::{accept_journal, accept_mask};
+use format::{Answer, Done, Pack, Reason, Refused, Route};
 use measure::{count_all, measure, scratch_needed};
 use nesting::table::table_of;
 use pack::read::node_at;
 use pack::tree::parents_of;
 use prepare::{mask_bits, wrong_count};
 use select::select_and_write;
-use slots::Bits;
+use slots::{Bits, Source};
 use stored_list::list_entries;
 
 // An extract of more bytes than a pack may have is refused (docs/FORMAT.md, 3.1: at most 16,777,216 bytes).
@@ -38,8 +39,8 @@ fn filter_roomy(
     size: usize,
     output: &mut [u8],
 ) -> Answer
-    requires { Roomy (call_of mask.now journal.now unstated asked list.old scratch.old output.old) bits kept route table.now parents.now counts.now need size }
-    ensures { Returned (call_of mask.now journal.now unstated asked list.old scratch.old output.old) result output.new list.new scratch.new }
+    requires { Roomy (call_of mask.now journal.now None asked list.old scratch.old output.old) bits kept route table.now parents.now counts.now need size }
+    ensures { Returned (call_of mask.now journal.now None asked list.old scratch.old output.old) result output.new list.new scratch.new }
 {
     select_and_write(
         mask,
@@ -55,12 +56,12 @@ fn filter_roomy(
         &mut scratch[..need],
         &mut output[..size],
     );
-    Answer::Done {
+    Ok(Done {
         kept: kept as u64,
         slots: bits.len as u64,
         route,
         bytes: size as u64,
-    }
+    })
 }
 
 // Whether an extract of `size` bytes is longer than its room, or than a pack may be.
@@ -82,25 +83,19 @@ fn filter_listed(
     scratch: &mut [u8],
     output: &mut [u8],
 ) -> Answer
-    requires { Listed (call_of mask.now journal.now unstated asked list.old scratch.old output.old) bits kept route }
-    ensures { Returned (call_of mask.now journal.now unstated asked list.old scratch.old output.old) result output.new list.new scratch.new }
+    requires { Listed (call_of mask.now journal.now None asked list.old scratch.old output.old) bits kept route }
+    ensures { Returned (call_of mask.now journal.now None asked list.old scratch.old output.old) result output.new list.new scratch.new }
 {
     let table = table_of(journal);
     let need = scratch_needed(journal, &table);
     if scratch.len() < need {
-        return Answer::Refused {
-            number: 13,
-            pack: Pack::Journal,
-        };
+        return Err(Refused::new(Reason::Scratch, Pack::Journal));
     }
     let parents = parents_of(journal);
     let counts = count_all(mask, bits, kept, journal, &table, &parents);
     let size = measure(mask, bits, journal, &table, &parents, &counts);
     if too_long(output.len(), size) {
-        return Answer::Refused {
-            number: 14,
-            pack: Pack::Journal,
-        };
+        return Err(Refused::new(Reason::Output, Pack::Journal));
     }
     filter_roomy(
         mask, bits, kept, route, journal, &table, &parents, &counts, asked, list, need, scratch,
@@ -113,10 +108,8 @@ fn list_short(mask: &[u8], bits: Bits, kept: usize, route: Route, asked: bool, r
     requires { Counted mask.now bits kept × (route ≡ route_of bits.len kept) }
     ensures { result ≡ asked && ltb room (length (entries mask.now)) }
 {
-    if !asked {
-        return false;
-    }
-    room < list_entries(mask, bits, route, kept)
+    let source = Source { bytes: mask, bits };
+    asked && room < list_entries(source, route, kept)
 }
 
 // The answer once mask and journal are accepted and the count is right: 10, 12, or what is left.
@@ -130,23 +123,17 @@ fn filter_accepted(
     scratch: &mut [u8],
     output: &mut [u8],
 ) -> Answer
-    requires { Accepted (call_of mask.now journal.now unstated asked list.old scratch.old output.old) bits kept }
-    ensures { Returned (call_of mask.now journal.now unstated asked list.old scratch.old output.old) result output.new list.new scratch.new }
+    requires { Accepted (call_of mask.now journal.now None asked list.old scratch.old output.old) bits kept }
+    ensures { Returned (call_of mask.now journal.now None asked list.old scratch.old output.old) result output.new list.new scratch.new }
 {
     let len = bits.len;
     if (node_at(journal, 0).rows as usize) < len {
-        return Answer::Refused {
-            number: 10,
-            pack: Pack::Journal,
-        };
+        return Err(Refused::new(Reason::TooLong, Pack::Journal));
     }
     let route = Route::default_strategy(len, kept);
     let room = list.len();
     if list_short(mask, bits, kept, route, asked, room) {
-        return Answer::Refused {
-            number: 12,
-            pack: Pack::Journal,
-        };
+        return Err(Refused::new(Reason::List, Pack::Journal));
     }
     filter_listed(
         mask, bits, kept, route, journal, asked, list, scratch, output,
@@ -157,54 +144,39 @@ fn filter_accepted(
 fn filter_masked(
     mask: &[u8],
     journal: &[u8],
-    states: bool,
-    stated: u64,
+    stated: Option<u64>,
     asked: bool,
     list: &mut [u32],
     scratch: &mut [u8],
     output: &mut [u8],
 ) -> Answer
     requires { mask_verdict mask.now ≡ 0 }
-    ensures { Returned (call_of mask.now journal.now (stated_if states stated) asked list.old scratch.old output.old) result output.new list.new scratch.new }
+    ensures { Returned (call_of mask.now journal.now stated asked list.old scratch.old output.old) result output.new list.new scratch.new }
 {
     let bits = mask_bits(mask);
-    let kept = slots::count(mask, bits);
-    if wrong_count(states, stated, kept) {
-        return Answer::Refused {
-            number: 11,
-            pack: Pack::Mask,
-        };
+    let source = Source { bytes: mask, bits };
+    let kept = source.count();
+    if wrong_count(stated, kept) {
+        return Err(Refused::new(Reason::Count, Pack::Mask));
     }
-    let number = checker::check(journal);
-    if number != 0 {
-        return Answer::Refused {
-            number,
-            pack: Pack::Journal,
-        };
-    }
+    accept_journal(journal)?;
     filter_accepted(mask, bits, kept, journal, asked, list, scratch, output)
 }
 
 // The rows of a journal that a mask picks, whatever bytes the two are: written as a pack at the front of `output`, with the route's
 // list stored where it is asked for; or the one slip by which the call is refused, and then nothing is written anywhere.
+// `asked` stands beside the list: what an `Option<&mut [u32]>` holds at return a contract says only by sums, and the C entry would call twice.
 pub fn filter(
     mask: &[u8],
     journal: &[u8],
-    states: bool,
-    stated: u64,
+    stated: Option<u64>,
     asked: bool,
     list: &mut [u32],
     scratch: &mut [u8],
     output: &mut [u8],
 ) -> Answer
-    ensures { Returned (call_of mask.now journal.now (stated_if states stated) asked list.old scratch.old output.old) result output.new list.new scratch.new }
+    ensures { Returned (call_of mask.now journal.now stated asked list.old scratch.old output.old) result output.new list.new scratch.new }
 {
-    let number = checker::check_mask(mask);
-    if number != 0 {
-        return Answer::Refused {
-            number,
-            pack: Pack::Mask,
-        };
-    }
-    filter_masked(mask, journal, states, stated, asked, list, scratch, output)
+    accept_mask(mask)?;
+    filter_masked(mask, journal, stated, asked, list, scratch, output)
 }

@@ -1,12 +1,12 @@
 -- The bench cases marked P, and each refusal's example, as one table proved by one statement, by computation (docs/FORMAT.md, 4, 6, 8 and 11). Assumes nothing.
-use Rattle.std.proofs.Common.{◌≡◌, ℕ, suc, ◌-◌, Bool, true, false, ◌&&◌, eqb, List, [], ◌∷◌, ◌++◌, map, length, take, replicate, refl, ap₂, lit≤, eqb-true}
+use Rattle.std.proofs.Common.{Option, Some as stated, None as unstated, Result, Ok, Err, ◌≡◌, ℕ, suc, ◌-◌, Bool, true, false, ◌&&◌, eqb, List, [], ◌∷◌, ◌++◌, map, length, take, replicate, refl, ap₂, lit≤, eqb-true}
 use mathlib.Core.Bool.{false≢true, and-eq-true_iff}
 use Rattle.format.specs.declared.Route.{Route}
 use Rattle.format.specs.declared.Route.TheVariants.{None, All, Slices, Indices}
 use Rattle.format.specs.declared.Pack.{Pack}
 use Rattle.format.specs.declared.Pack.TheVariants.{Mask, Journal}
-use Rattle.format.specs.declared.Answer.{Answer}
-use Rattle.format.specs.declared.Answer.TheVariants.{Done, Refused}
+use Rattle.format.specs.declared.Done.{Done}
+use Rattle.format.specs.declared.Refused.{Refused}
 use Rattle.format.specs.Bytes as Bytes
 use Rattle.format.specs.Bytes.{table, join, padded, one}
 use Rattle.format.specs.Words as Words
@@ -15,13 +15,16 @@ use Rattle.format.specs.Node as Node
 use Rattle.format.specs.Node.{mark, old_mark, no_bitmap}
 use Rattle.format.specs.Verdict as Verdict
 use Rattle.format.specs.Mask as Masks
-use Rattle.format.specs.Mask.{by_route}
+use Rattle.format.specs.Mask.{by_route, route_number}
 use Rattle.format.specs.Kept as Kept
 use Rattle.format.specs.Write as Write
 use Rattle.format.specs.Write.{numbers}
 use Rattle.format.specs.Refusal as Refusals
+use Rattle.format.specs.Reason as Reasons
+use Rattle.format.specs.Reason.{reason_number, reason_of}
+use Rattle.format.specs.Names.{pack_number}
 use Rattle.format.specs.Answer as Answers
-use Rattle.format.specs.Answer.{Call, Stated, unstated, stated, answer, output_after, list_after, scratch_after}
+use Rattle.format.specs.Answer.{Call, done_with, refused_for, answer, output_after, list_after, scratch_after}
 use Rattle.format.proofs.Demand3.{Alike}
 
 -- a pack from its mark, its body, its nodes' fields, and the trailer's rows; one with the mark that is written, and one with the old mark
@@ -82,36 +85,26 @@ short : ℕ → List ℕ
 short last = numbers 4 (3 ∷ []) ++ (7 ∷ 8 ∷ 9 ∷ []) ++ replicate 8 0 ++ (last ∷ [])
 
 -- a call; and one with no stated count and no list, two bytes of scratch and so many of output
-unfoldable pub call : List ℕ → List ℕ → Stated → Bool → List ℕ → List ℕ → List ℕ → Call
+unfoldable pub call : List ℕ → List ℕ → Option ℕ → Bool → List ℕ → List ℕ → List ℕ → Call
 call m j count asked list scratch output =
     let mask' : List ℕ = m in
     let journal' : List ℕ = j in
-    record { mask = mask'; journal = journal'; states = count; asked = asked; list = list; scratch = scratch; output = output }
+    record { mask = mask'; journal = journal'; stated = count; asked = asked; list = list; scratch = scratch; output = output }
 
 plain : ℕ → List ℕ → List ℕ → Call
 plain room m j = call m j unstated false [] (9 ∷ 9 ∷ []) (replicate room 7)
 
 -- an answer in numbers: kept, mask length, route, extract length; or a refusal's number, and its pack
-route_number : Route → ℕ
-route_number None = 0
-route_number All = 1
-route_number Slices = 2
-route_number Indices = 3
-
-pack_number : Pack → ℕ
-pack_number Mask = 0
-pack_number Journal = 1
-
-in_numbers : Answer → List ℕ
-in_numbers (Done kept slots route bytes) = kept ∷ slots ∷ route_number route ∷ bytes ∷ []
-in_numbers (Refused n p) = n ∷ pack_number p ∷ []
+in_numbers : Result Done Refused → List ℕ
+in_numbers (Ok d) = d.kept ∷ d.slots ∷ route_number d.route ∷ d.bytes ∷ []
+in_numbers (Err r) = reason_number r.reason ∷ pack_number r.pack ∷ []
 
 -- what is found and what is expected: an answer, and output, list and scratch as the call returns; or a number
 record Case : Type 0 where
   found : List (List ℕ)
   expected : List (List ℕ)
 
-abbrev ends : Answer → List ℕ → List ℕ → List ℕ → List (List ℕ)
+abbrev ends : Result Done Refused → List ℕ → List ℕ → List ℕ → List (List ℕ)
 ends a output list scratch = in_numbers a ∷ output ∷ list ∷ scratch ∷ []
 
 abbrev number : ℕ → List (List ℕ)
@@ -125,12 +118,12 @@ case f e = record { found = f; expected = e }
 
 -- a call that is refused changes nothing
 refusal : ℕ → Pack → Call → Case
-refusal n p c = case (outcome c) (ends (Refused n p) c.output c.list c.scratch)
+refusal n p c = case (outcome c) (ends (refused_for (reason_of n) p) c.output c.list c.scratch)
 
 -- a call that keeps so many rows of so many by a route: the extract, one byte of output beyond it, and the scratch
 keeps : ℕ → ℕ → Route → List ℕ → List ℕ → List ℕ → List ℕ → Case
 keeps kept slots route m j new scratch =
-    case (outcome (plain (suc (length new)) m j)) (ends (Done kept slots route (length new)) (new ++ (7 ∷ [])) [] scratch)
+    case (outcome (plain (suc (length new)) m j)) (ends (done_with kept slots route (length new)) (new ++ (7 ∷ [])) [] scratch)
 
 untouched : List ℕ
 untouched = 9 ∷ 9 ∷ []
@@ -213,8 +206,8 @@ bench =
     ∷ case (number (one (by_route 128 2 true))) (number 1)
     ∷ case (number (one (by_route 128 3 true))) (number 0)
     -- stored lists: row numbers; start and end of each run
-    ∷ case (outcome listed) (ends (Done 2 5 Indices 64) p1 (0 ∷ 3 ∷ 6 ∷ []) [])
-    ∷ case (outcome sliced) (ends (Done 5 6 Slices 80) (natives (2 ∷ 3 ∷ 4 ∷ 5 ∷ 6 ∷ [])) (1 ∷ 6 ∷ 9 ∷ []) [])
+    ∷ case (outcome listed) (ends (done_with 2 5 Indices 64) p1 (0 ∷ 3 ∷ 6 ∷ []) [])
+    ∷ case (outcome sliced) (ends (done_with 5 6 Slices 80) (natives (2 ∷ 3 ∷ 4 ∷ 5 ∷ 6 ∷ [])) (1 ∷ 6 ∷ 9 ∷ []) [])
     -- lists: the child rows of kept rows, with offsets from 0; under a null row none
     ∷ keeps 2 3 Indices (mask_of 3 0x05) (lists_of 3 (1 ∷ 3 ∷ 4 ∷ 5 ∷ []) (9 ∷ 10 ∷ 11 ∷ 12 ∷ 13 ∷ 14 ∷ [])) (lists_of 2 (0 ∷ 2 ∷ 3 ∷ []) (10 ∷ 11 ∷ 13 ∷ [])) (0 ∷ 9 ∷ [])
     ∷ keeps 2 3 Indices (mask_of 3 0x03) null_list null_list_kept (0 ∷ 9 ∷ [])
@@ -286,7 +279,7 @@ same-is t h (x ∷ xs) (y ∷ ys) e =
     ap₂ ◌∷◌ (h x y both.0) (same-is t h xs ys both.1)
 
 test : same (same (same eqb)) (map (λ (c : Case). c.found) cases) (map (λ (c : Case). c.expected) cases) ≡ true
-unfolding Bytes.opened Words.opened Node.opened Verdict.opened Masks.opened Kept.opened Write.opened Refusals.opened Answers.opened marked pack old_pack counting node mask_of natives texts runs_of lists_of views_of views_kept long short call plain outcome case refusal keeps untouched five p1 saying with_null counted skipping null_inside null_kept null_list null_list_kept abcde listed sliced bench refusals cases route_number pack_number in_numbers same
+unfolding Bytes.opened Words.opened Node.opened Verdict.opened Masks.opened Kept.opened Write.opened Refusals.opened Reasons.opened Answers.opened marked pack old_pack counting node mask_of natives texts runs_of lists_of views_of views_kept long short call plain outcome case refusal keeps untouched five p1 saying with_null counted skipping null_inside null_kept null_list null_list_kept abcde listed sliced bench refusals cases in_numbers same
 test = refl
 
 -- the one statement
@@ -381,7 +374,7 @@ unfoldable pub other_way : Call
 other_way = call (old_pack (0x7F ∷ 0xD2 ∷ []) (node 1 0 5 1 0 1 0 ∷ []) 5) loose_journal unstated true (1 ∷ 2 ∷ 3 ∷ []) (8 ∷ 8 ∷ 8 ∷ []) (replicate 528 7)
 
 pub premises-hold : Alike one_way other_way
-unfolding Bytes.opened Node.opened Verdict.opened Masks.opened Kept.opened Write.opened Refusals.opened Answers.opened marked pack old_pack counting node mask_of call abcde pieces place tight tight_journal loose loose_journal one_way other_way
+unfolding Bytes.opened Node.opened Verdict.opened Masks.opened Kept.opened Write.opened Refusals.opened Reasons.opened Answers.opened marked pack old_pack counting node mask_of call abcde pieces place tight tight_journal loose loose_journal one_way other_way
 premises-hold =
     record {
       mask_c = refl;
@@ -403,6 +396,6 @@ premises-hold =
     }
 
 -- and neither call is refused: both give an extract of 520 bytes
-pub premises-succeed : answer one_way ≡ Done 2 5 Indices 520
-unfolding Bytes.opened Node.opened Verdict.opened Masks.opened Kept.opened Write.opened Refusals.opened Answers.opened marked pack old_pack counting node mask_of call abcde pieces place tight tight_journal one_way
+pub premises-succeed : answer one_way ≡ done_with 2 5 Indices 520
+unfolding Bytes.opened Node.opened Verdict.opened Masks.opened Kept.opened Write.opened Refusals.opened Reasons.opened Answers.opened marked pack old_pack counting node mask_of call abcde pieces place tight tight_journal one_way
 premises-succeed = refl

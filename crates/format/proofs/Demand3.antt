@@ -1,5 +1,5 @@
 -- Demand 3: an extract shows the kept part of a journal and nothing else. Assumes nothing.
-use Rattle.std.proofs.Common.{◌≡◌, ℕ, zero, suc, ◌<◌, ◌≤◌, Bool, true, false, cond, not, ◌&&◌, ◌||◌, eqb, ltb, ◌⊎◌, List, [], ◌∷◌, ◌++◌, length, sym, refl, ap, ◌∙◌, ap₂, inl, inr, eq-or-lt_of_le, arith, le-ltb, eq-eqb, ne_eqb}
+use Rattle.std.proofs.Common.{Result, ◌≡◌, ℕ, zero, suc, ◌<◌, ◌≤◌, Bool, true, false, cond, not, ◌&&◌, ◌||◌, eqb, ltb, ◌⊎◌, List, [], ◌∷◌, ◌++◌, length, sym, refl, ap, ◌∙◌, ap₂, inl, inr, eq-or-lt_of_le, arith, le-ltb, eq-eqb, ne_eqb}
 use mathlib.Core.Bool.{beq, or_assoc, or-false}
 use Rattle.format.specs.Bytes.{chosen, over}
 use Rattle.format.specs.Node.{rows}
@@ -7,14 +7,16 @@ use Rattle.format.specs.Verdict.{mask_verdict, journal_verdict}
 use Rattle.format.specs.Mask.{picked, picks, mask_length, count, route, route_of, entries, entries_for, edges, before}
 use Rattle.format.specs.declared.Route.{Route}
 use Rattle.format.specs.declared.Route.TheVariants.{None, All, Slices, Indices}
-use Rattle.format.specs.declared.Answer.{Answer}
-use Rattle.format.specs.declared.Answer.TheVariants.{Done, Refused}
+use Rattle.format.specs.declared.Done.{Done}
+use Rattle.format.specs.declared.Reason.{Reason}
+use Rattle.format.specs.declared.Refused.{Refused}
 use Rattle.format.specs.declared.Pack.{Pack}
 use Rattle.format.specs.declared.Pack.TheVariants.{Mask, Journal}
 use Rattle.format.specs.Kept.{columns, kept_part}
 use Rattle.format.specs.Write.{write, extract}
 use Rattle.format.specs.Refusal.{Refusal, unrefused, refused_by, when, ◌then◌, of_verdict, after}
-use Rattle.format.specs.Answer.{Call, answer, answer_at, refusal_of, too_long, wrong_count, list_short, scratch_short, output_short, extract_of, output_after, stores, list_after}
+use Rattle.format.specs.Reason.{reason_of}
+use Rattle.format.specs.Answer.{Call, done_with, refused_for, answer, answer_at, refusal_of, too_long, wrong_count, list_short, scratch_short, output_short, extract_of, output_after, stores, list_after}
 
 -- two calls on masks that pick the same rows and journals that are alike in the kept part, whatever else their bytes hold
 pub record Alike (c d : Call) : Type 0 where
@@ -33,11 +35,11 @@ pub record Alike (c d : Call) : Type 0 where
   pub scratch_c : scratch_short c ≡ false
   pub scratch_d : scratch_short d ≡ false
   pub same_output : c.output ≡ d.output
-  pub same_stated : c.states ≡ d.states
+  pub same_stated : c.stated ≡ d.stated
 
 -- what a caller sees of a call: its answer, told in the caller's own terms (as a value of the answer's type, or in numbers), and what output
 -- and list hold as it returned
-pub record Seen {T : Type 0} (tell : Answer → T) (c : Call) : Type 0 where
+pub record Seen {T : Type 0} (tell : Result Done Refused → T) (c : Call) : Type 0 where
   pub told : T
   pub output : List ℕ
   pub list : List ℕ
@@ -45,25 +47,25 @@ pub record Seen {T : Type 0} (tell : Answer → T) (c : Call) : Type 0 where
   pub written : output ≡ output_after c
   pub listed : list ≡ list_after c
 
-module _ {T : Type 0} {tell : Answer → T} {c d : Call} (f : Seen tell c) (g : Seen tell d) where
+module _ {T : Type 0} {tell : Result Done Refused → T} {c d : Call} (f : Seen tell c) (g : Seen tell d) where
   -- both give the extract that the definitions give, the same in length and in every byte, at the front of an output that is else as it was;
   -- and a call that asks for the list has the same entries as the other at the front of it
   pub record BothGive : Type 0 where
     pub extracts : extract_of c ≡ extract_of d
-    pub gives : f.told ≡ tell (Done (count c.mask) (mask_length c.mask) (route c.mask) (length (extract_of c)))
-    pub gives_too : g.told ≡ tell (Done (count d.mask) (mask_length d.mask) (route d.mask) (length (extract_of d)))
+    pub gives : f.told ≡ tell (done_with (count c.mask) (mask_length c.mask) (route c.mask) (length (extract_of c)))
+    pub gives_too : g.told ≡ tell (done_with (count d.mask) (mask_length d.mask) (route d.mask) (length (extract_of d)))
     pub writes : f.output ≡ over (extract_of c) c.output
     pub writes_too : g.output ≡ over (extract_of d) d.output
     pub entered : entries c.mask ≡ entries d.mask
     pub lists : c.asked ≡ true → f.list ≡ over (entries c.mask) c.list
     pub lists_too : d.asked ≡ true → g.list ≡ over (entries d.mask) d.list
 
-  -- both give the same refusal, number and pack, and the outputs are as they were
+  -- both give the same refusal, reason and pack, and the outputs are as they were
   pub record BothRefuse : Type 0 where
-    pub number : ℕ
+    pub reason : Reason
     pub pack : Pack
-    pub refuses : f.told ≡ tell (Refused number pack)
-    pub refuses_too : g.told ≡ tell (Refused number pack)
+    pub refuses : f.told ≡ tell (refused_for reason pack)
+    pub refuses_too : g.told ≡ tell (refused_for reason pack)
     pub leaves : f.output ≡ c.output
     pub leaves_too : g.output ≡ d.output
 
@@ -78,7 +80,7 @@ module _ {T : Type 0} {tell : Answer → T} {c d : Call} (f : Seen tell c) (g : 
 -- an accepted call on a long enough journal, with list and scratch enough, is refused by 11 and by 14 only
 accepted-refusal : (c : Call) → mask_verdict c.mask ≡ 0 → journal_verdict c.journal ≡ 0 → mask_length c.mask ≤ rows c.journal 0
     → list_short c ≡ false → scratch_short c ≡ false
-    → refusal_of c ≡ when (wrong_count c.states (count c.mask)) 11 Mask then when (output_short (length c.output) (length (extract_of c))) 14 Journal
+    → refusal_of c ≡ when (wrong_count c.stated (count c.mask)) 11 Mask then when (output_short (length c.output) (length (extract_of c))) 14 Journal
 unfolding refusal_of too_long of_verdict when ◌then◌
 accepted-refusal c m j long l s = rw (m, j, le-ltb (rows c.journal 0) (mask_length c.mask) long, l, s)
 
@@ -197,7 +199,7 @@ module _ (c d : Call) (h : Alike c d) where
   unfolding output_after
   same-output = rw (same-refusal, same-extract, h.same_output)
 
-  module _ {T : Type 0} {tell : Answer → T} (f : Seen tell c) (g : Seen tell d) where
+  module _ {T : Type 0} {tell : Result Done Refused → T} (f : Seen tell c) (g : Seen tell d) where
     -- which of the two it is follows from the one refusal that both have
     ends : (s : Refusal Pack) → refusal_of c ≡ s → refusal_of d ≡ s → BothGive f g ⊎ BothRefuse f g
     unfolding answer answer_at output_after after
@@ -216,7 +218,7 @@ module _ (c d : Call) (h : Alike c d) where
     ends (refused_by n k) p q =
         inr
         (record {
-          number = n;
+          reason = reason_of n;
           pack = k;
           refuses = f.tells ∙ ap tell (rw p);
           refuses_too = g.tells ∙ ap tell (rw q);

@@ -12,6 +12,7 @@ pub mod SpanLaws
 pub mod Measure
 pub mod Accepted
 pub mod Refusals
+pub mod Reasons
 pub mod Returns
 pub mod Demand3
 pub mod Cases

@@ -1,5 +1,6 @@
 -- The laws of a write, and of what a loop of writes has left to write. Only `put-parts`, `put_front`, `wrote-front`, `put-at` and `bit-put` ask that the bytes fit. Assumes nothing.
-use Rattle.std.proofs.Common.{◌≡◌, ℕ, zero, suc, ◌+◌, ◌*◌, ◌/◌, ◌%◌, ◌<◌, ◌≤◌, List, [], ◌∷◌, ◌++◌, length, get_or, take, drop, set, sym, refl, ap, ◌∙◌, ap₂, add-zero, zero-add, add-one, arith, length-append, length-set, get_or-set_other, get_or-set_same}
+use Rattle.std.proofs.Common.{◌≡◌, ℕ, zero, suc, ◌+◌, ◌*◌, ◌-◌, ◌/◌, ◌%◌, ◌<◌, ◌≤◌, List, [], ◌∷◌, ◌++◌, length, get_or, take, drop, drop-drop, add-sub_of_le, set, sym, refl, subst, append_assoc, ap, ◌∙◌, ap₂, add-zero, zero-add, add-one, arith, length-append, length-set, get_or-set_other, get_or-set_same}
+use borrow.Rule.Slice.PartMut.{put_mid}
 use lib.Seq.{sets, sets-eq}
 use Rattle.format.specs.Bytes.{bit_in, over}
 use Rattle.format.specs.Put.{put, Wrote}
@@ -25,6 +26,12 @@ as-sets old at (b ∷ bs) = as-sets (set old at b) (suc at) bs
 -- a write by its parts, where the bytes fit
 pub put-parts : (old : List ℕ) (at : ℕ) (bs : List ℕ) → at + length bs ≤ length old → put old at bs ≡ take at old ++ bs ++ drop (at + length bs) old
 put-parts old at bs fit = as-sets old at bs ∙ sets-eq bs old at fit
+
+-- a write through a lent part that the bytes fill
+pub put-part : (old : List ℕ) (at end : ℕ) (bs : List ℕ) → at ≤ end → end ≤ length old → length bs ≡ end - at → put_mid at (end - at) old bs ≡ put old at bs
+put-part old at end bs below fit long =
+    let past : at + length bs ≡ end = omega arith in
+    rw (drop-drop, add-sub_of_le below, ← append_assoc) (sym (subst (λ (n : ℕ). put old at bs ≡ take at old ++ bs ++ drop n old) past (put-parts old at bs (omega arith))))
 
 -- a write at the front, as a call's promise states it
 pub put_front : (old bs : List ℕ) → length bs ≤ length old → put old 0 bs ≡ over bs old

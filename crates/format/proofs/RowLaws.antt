@@ -4,6 +4,7 @@ use lib.Bits.{bit_and}
 use lib.Count.{ones, count_trailing_zeros}
 use Rattle.format.specs.Bytes.{chosen, bytes_at}
 use Rattle.format.specs.Slots.{word_from, pick, picks_from, count_up}
+use Rattle.format.specs.Words.{low_bits, gather}
 use Rattle.format.specs.Rows.{set_rows, Below, none, more}
 use Rattle.format.proofs.Numbers.{bytes-more}
 use Rattle.format.proofs.SlotLaws.{length_up, get_or-up, chosen-picks}
@@ -57,6 +58,10 @@ below-first (more h g) = h
 pub below-others : {len r : ℕ} {rs : List ℕ} → Below len (r ∷ rs) → Below len rs
 below-others (more h g) = g
 
+pub below_wider : {len m : ℕ} {rs : List ℕ} → len ≤ m → Below len rs → Below m rs
+below_wider h none = none
+below_wider h (more l g) = more (omega arith) (below_wider h g)
+
 pub below_left : {len : ℕ} (xs ys : List ℕ) → Below len (xs ++ ys) → Below len xs
 below_left [] ys h = none
 below_left (x ∷ xs) ys (more h g) = more h (below_left xs ys g)
@@ -71,6 +76,18 @@ below_up len zero i h = none
 below_up len (suc n) i h =
     let l : i < len = omega arith in
     more l (below_up len n (suc i) (omega arith))
+
+below-gather : {len : ℕ} (bs : List Bool) {xs : List ℕ} → Below len xs → Below len (gather bs xs)
+unfolding gather
+below-gather [] b = none
+below-gather (t ∷ ts) none = none
+below-gather (true ∷ ts) (more h g) = more h (below-gather ts g)
+below-gather (false ∷ ts) (more h g) = below-gather ts g
+
+-- the rows of a word are the 64 from its base on, at most
+pub below-set : (len base x : ℕ) → base + 64 ≤ len → Below len (set_rows base x)
+unfolding set_rows
+below-set len base x h = below-gather (low_bits 64 x) (below_up len 64 base h)
 
 pub below-picks : (p : ℕ → Bool) (len n i : ℕ) → i + n ≤ len → Below len (picks_from p n i)
 unfolding picks_from

@@ -8,7 +8,9 @@ pub mod Mask
 pub mod Kept
 pub mod Write
 pub mod Refusal
+pub mod Reason
 pub mod Answer
+pub mod Names
 -- how long a written pack is; what acceptance gives later code; what a writer promises of its output; the rows that blocks give
 pub mod Size
 pub mod Accepted

@@ -10,10 +10,11 @@ ghost use Rattle.slots.specs.Source.{Lies};
 ghost use Rattle.nesting.specs.Rows.{picks_of, Ready};
 
 use crate::root::{bytes_at_root, null_at_root};
-use nesting::table::{NO_BITMAP, number};
+use nesting::table::NO_BITMAP;
 use nesting::top::at_root;
 use slots::Bits;
 use stretches::told::{none_told, told};
+use words::read_number;
 
 // Kinds by number: bytes with offsets of 32 and of 64 bits.
 const BYTES32: u32 = 4;
@@ -110,7 +111,8 @@ fn bytes_by_stretches(
         );
         r = s.end;
         if s.kept {
-            n += number(journal, first + w * r, w) - number(journal, first + w * row, w);
+            let end = read_number(journal, first + w * r, w) as usize;
+            n += end - read_number(journal, first + w * row, w) as usize;
         }
     }
     n

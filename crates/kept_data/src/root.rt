@@ -8,7 +8,7 @@ ghost use Rattle.format.specs.Accepted.{Offsets};
 ghost use Rattle.slots.specs.Source.{Lies, slot_of};
 ghost use Rattle.nesting.specs.Rows.{picks_of, Ready};
 
-use slots::Bits;
+use slots::{Bits, Source};
 use spans::word_spans;
 
 // Some picked slot has no validity bit among those from bit `first` on: a word at a time.
@@ -17,16 +17,10 @@ pub fn null_at_root(mask: &[u8], bits: Bits, journal: &[u8], first: usize) -> bo
     requires first_bound { first ≤ 2 ^ 40 }
     ensures { result ≡ any_below (λ r. slot_of mask.now bits r && not (bit_in journal.now (first + r))) bits.len }
 {
-    let len = bits.len;
-    let mut w: usize = 0;
-    while 64 * w < len {
-        let x = if 64 * w + 128 <= len {
-            slots::word_in(mask, bits, w)
-        } else {
-            slots::word(mask, bits, w)
-        };
+    let source = Source { bytes: mask, bits };
+    for w in 0..bits.len.div_ceil(64) {
+        let x = source.word(w);
         let v = slots::load64(journal, first + 64 * w);
-        w += 1;
         if x & v != x {
             return true;
         }
@@ -52,21 +46,16 @@ pub fn bytes_at_root(
     ensures { (result ≡ length (join (map (own_bytes w journal.now node) (picks_of mask.now bits)))) × (result ≤ second_length journal.now node) }
 {
     let first = table[10 * node + 6] as usize + w * (table[10 * node + 3] as usize);
-    let len = bits.len;
+    let source = Source { bytes: mask, bits };
     let mut n: usize = 0;
-    let mut i: usize = 0;
-    while 64 * i < len {
-        let x = if 64 * i + 128 <= len {
-            slots::word_in(mask, bits, i)
-        } else {
-            slots::word(mask, bits, i)
-        };
+    for i in 0..bits.len.div_ceil(64) {
+        let x = source.word(i);
         let base = 64 * i;
-        i += 1;
         // An empty word costs this test alone.
-        if x != 0 {
-            n += word_spans(journal, first, w, base, x);
+        if x == 0 {
+            continue;
         }
+        n += word_spans(journal, first, w, base, x);
     }
     n
 }

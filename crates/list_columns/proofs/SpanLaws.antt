@@ -3,6 +3,8 @@ use Rattle.std.proofs.Common.{◌≡◌, ℕ, zero, suc, ◌+◌, ◌-◌, ◌*�
 use Rattle.format.specs.Bytes.{sum_below, bit_in, bytes_at, le}
 use Rattle.format.specs.Slots.{count_up, picks_from}
 use Rattle.format.specs.Write.{numbers}
+use Rattle.format.specs.Rows.{Below}
+use Rattle.format.proofs.RowLaws.{below_up, below_wider}
 use Rattle.format.proofs.SlotLaws.{chosen-picks}
 use Rattle.predicate.specs.declared.Selection.{Selection}
 use Rattle.predicate.specs.declared.Cursor.{Cursor}
@@ -73,6 +75,10 @@ spans-fewer {w} {b} {first} {from} {n} m l h = record {
   small = omega (arith, h.small);
 }
 
+-- each row, and the one behind it, is a number
+pub spans-number : {w : ℕ} {b : List ℕ} {first from : ℕ} {rs : List ℕ} → Among (Spans w b first from) rs → Below (2 ^ 64 - 1) rs
+spans-number a = below_wider (omega (arith, a.holds.small)) a.below
+
 pub span-first : {w : ℕ} {b : List ℕ} {first from : ℕ} {rs ts : List ℕ} {r : ℕ} → Among (Spans w b first from) rs → rs ≡ r ∷ ts → Spans w b first from (suc r)
 span-first {r = r} h e = spans-fewer (suc r) (among_first h e) h.holds
 
@@ -91,9 +97,11 @@ module _ {w : ℕ} {b : List ℕ} {first from : ℕ} {sel : Selection} {p : ℕ 
   block-fits g = sum_fits k g (2 ^ 64) (spans-small w b first from p len h) fit
 
   pub run-spans : {a e : ℕ} → Blocked sel p len list cur.place (Run a e d)
-      → ((a ≤ e) × Spans w b first from e)
+      → Among (Spans w b first from) (count_up (e - a) a)
       × ((sum + total_of (sizes_of (reach w b first from) (count_up (e - a) a)) < 2 ^ 64) × (here + length (numbers w (ends_from sum (sizes_of (reach w b first from) (count_up (e - a) a)))) ≤ length new))
-  run-spans {a} {e} g = ((g.0, spans-fewer e g.1 h), block-fits g.2)
+  run-spans {a} {e} g =
+      let (up, inside, given) = g in
+      (record { len = e; below = below_up e (e - a) a (omega arith); holds = spans-fewer e inside h }, block-fits given)
 
   pub word-spans : {base : ℕ} {xs : List ℕ} → (base ≤ len) × Gives sel p len list cur.place xs d
       → Among (Spans w b first from) xs × ((sum + total_of (sizes_of (reach w b first from) xs) < 2 ^ 64) × (here + length (numbers w (ends_from sum (sizes_of (reach w b first from) xs))) ≤ length new))

@@ -9,10 +9,11 @@ ghost use Rattle.spans.specs.Spans.{spans};
 ghost use Rattle.list_counts.specs.Chains.{followed, Plain, Reaches, Descends, Climbed};
 
 use crate::Levels;
-use nesting::table::{LIST32, LIST64, NO_BITMAP, number};
+use nesting::table::{LIST32, LIST64, NO_BITMAP};
 use nesting::top::top_of;
-use slots::Bits;
+use slots::{Bits, Source};
 use spans::first_offset;
+use words::{RowRuns, read_number};
 
 // How many levels are followed: a pack is at most 8 nodes deep, so no node has more lists above it.
 const DEEPEST: usize = 8;
@@ -71,7 +72,7 @@ fn follow(journal: &[u8], levels: &[usize; 16], n: usize, row: usize) -> usize
     while 0 < k {
         k -= 1;
         let w = levels[2 * k + 1];
-        r = number(journal, levels[2 * k] + w * r, w);
+        r = read_number(journal, levels[2 * k] + w * r, w) as usize;
     }
     r
 }
@@ -83,14 +84,10 @@ fn word_chain(journal: &[u8], levels: &[usize; 16], n: usize, base: usize, word:
     requires word_bound { spans (followed journal.now levels.now n) (set_rows base word) < 2 ^ 64 }
     ensures { result ≡ spans (followed journal.now levels.now n) (set_rows base word) }
 {
-    let mut rest = word;
     let mut sum: usize = 0;
-    while rest != 0 {
-        let run = words::low_run(rest);
-        let a = follow(journal, levels, n, base + run.from);
-        let e = follow(journal, levels, n, base + run.to);
-        sum += e - a;
-        rest = run.rest;
+    for (from, to) in RowRuns::new(base, word) {
+        let end = follow(journal, levels, n, to);
+        sum += end - follow(journal, levels, n, from);
     }
     sum
 }
@@ -102,21 +99,18 @@ pub fn count_chain(mask: &[u8], bits: Bits, journal: &[u8], levels: &[usize; 16]
     requires sifted { Sifted (picks_of mask.now bits) (rows journal.now 0) }
     ensures { result ≡ spans (followed journal.now levels.now n) (picks_of mask.now bits) }
 {
+    let source = Source { bytes: mask, bits };
     let len = bits.len;
     let mut sum: usize = 0;
     let mut k: usize = 0;
     while 64 * k < len {
-        let x = if 64 * k + 128 <= len {
-            slots::word_in(mask, bits, k)
-        } else {
-            slots::word(mask, bits, k)
-        };
+        let x = source.word(k);
         let base = 64 * k;
         k += 1;
         if x != 0 {
             sum += word_chain(journal, levels, n, base, x);
         } else if k % scan::SPACING == 0 {
-            k = scan::blank_end(mask, bits, k);
+            k = scan::blank_end(source, k);
         }
     }
     sum

@@ -9,7 +9,7 @@ ghost use Rattle.slots.specs.Source.{Lies};
 ghost use Rattle.nesting.specs.Rows.{picks_of, Sifted, AtList};
 
 use nesting::table::valid_rows;
-use slots::Bits;
+use slots::{Bits, Source};
 use spans::{first_offset, word_spans};
 
 pub mod chain;
@@ -36,22 +36,19 @@ pub fn count_spans(
     ensures { result ≡ length (kept_spans w journal.now i (picks_of mask.now bits)) }
 {
     let first = first_offset(journal, table, w, i);
+    let source = Source { bytes: mask, bits };
     let len = bits.len;
     let mut n: usize = 0;
     let mut k: usize = 0;
     while 64 * k < len {
-        let x = if 64 * k + 128 <= len {
-            slots::word_in(mask, bits, k)
-        } else {
-            slots::word(mask, bits, k)
-        };
+        let x = source.word(k);
         let base = 64 * k;
         k += 1;
         if x != 0 {
             let kept = valid_rows(journal, table, w, i, base, x);
             n += word_spans(journal, first, w, base, kept);
         } else if k % scan::SPACING == 0 {
-            k = scan::blank_end(mask, bits, k);
+            k = scan::blank_end(source, k);
         }
     }
     n

@@ -14,7 +14,7 @@ use Rattle.format.specs.Slots.{pick, picks_from, count_up}
 use Rattle.format.specs.Node.{valid, first_number}
 use Rattle.format.specs.Kept.{span_size, span}
 use Rattle.words.specs.Run.{LowestRun}
-use Rattle.words.proofs.Carry.{rows-off, run-below, rest_below}
+use Rattle.words.proofs.Carry.{run-below, rest_below}
 use Rattle.nesting.specs.Rows.{between}
 use Rattle.nesting.proofs.Between.{between-append}
 use Rattle.marks.proofs.Tests.{within_in, within-before, within-past, within_none, within-join}
@@ -57,42 +57,42 @@ module _ (o : ℕ → ℕ) (len : ℕ) (up : (r : ℕ) → r < len → o r ≤ o
 
 -- ---- the rows of a word, its lowest run off
 
-module _ {w : ℕ} {b : List ℕ} {first word from to rest room : ℕ} (h : LowestRun word from to rest) (base : ℕ) (s : Spanning w b first (set_rows base word) room) where
-  inside : base + to ≤ s.len
-  inside = run-below h base s.below
+module _ {w : ℕ} {b : List ℕ} {first base word from to rest room : ℕ} (h : LowestRun base word from to rest) (s : Spanning w b first (set_rows base word) room) where
+  inside : to ≤ s.len
+  inside = run-below h s.below
 
-  pub run_small : (base + from < 2 ^ 64) × (base + to < 2 ^ 64)
+  pub run_small : (from < 2 ^ 64) × (to < 2 ^ 64)
   run_small = (omega (arith, inside, s.few, h.filled), omega (arith, inside, s.few))
 
-  pub run_lies : first + w * (base + to) + w ≤ length b
-  run_lies = omega (arith, s.lies, mul-suc w (base + to), mul-suc w s.len, mul-le-mul_left w inside)
+  pub run_lies : first + w * to + w ≤ length b
+  run_lies = omega (arith, s.lies, mul-suc w to, mul-suc w s.len, mul-le-mul_left w inside)
 
-  pub start-lies : first + w * (base + from) + w ≤ length b
+  pub start-lies : first + w * from + w ≤ length b
   start-lies =
-      let up : w * (base + from) ≤ w * (base + to) = mul-le-mul_left w (omega (arith, h.filled)) in
+      let up : w * from ≤ w * to = mul-le-mul_left w (omega (arith, h.filled)) in
       omega (arith, run_lies)
 
   pub spanning-rest : Spanning w b first (set_rows base rest) room
-  spanning-rest = record { len = s.len; few = s.few; below = rest_below h base s.below; lies = s.lies; rise = s.rise; inside = s.inside }
+  spanning-rest = record { len = s.len; few = s.few; below = rest_below h s.below; lies = s.lies; rise = s.rise; inside = s.inside }
 
-  module _ {lo hi : ℕ} (el : lo ≡ le w b (first + w * (base + from))) (eh : hi ≡ le w b (first + w * (base + to))) where
-    last : base + from + (base + to - (base + from)) ≡ base + to
+  module _ {lo hi : ℕ} (el : lo ≡ le w b (first + w * from)) (eh : hi ≡ le w b (first + w * to)) where
+    last : from + (to - from) ≡ to
     last = omega (arith, h.filled)
 
     pub run-range : (lo ≤ hi) × (hi ≤ room)
     unfolding offset_from
     run-range =
-        let up = climbs (offset_from w b first) s.len s.rise (base + to - (base + from)) (base + from) (omega (arith, last, inside)) in
-        rw (el, eh) (rw last at up, s.inside (base + to) inside)
+        let up = climbs (offset_from w b first) s.len s.rise (to - from) from (omega (arith, last, inside)) in
+        rw (el, eh) (rw last at up, s.inside to inside)
 
     pub run-spans : (x : ℕ) → in_spans (offset_from w b first) (set_rows base word) x ≡ (within 0 lo hi x || in_spans (offset_from w b first) (set_rows base rest) x)
     unfolding offset_from
     run-spans x =
-        ap (λ (q : List ℕ). in_spans (offset_from w b first) q x) (rows-off h base)
-        ∙ spans-append (offset_from w b first) (count_up (base + to - (base + from)) (base + from)) (set_rows base rest) x
-        ∙ ap (◌|| in_spans (offset_from w b first) (set_rows base rest) x) (spans-run (offset_from w b first) s.len s.rise (base + to - (base + from)) (base + from) x (omega (arith, last, inside)) ∙ range)
+        ap (λ (q : List ℕ). in_spans (offset_from w b first) q x) (h.rows)
+        ∙ spans-append (offset_from w b first) (count_up (to - from) from) (set_rows base rest) x
+        ∙ ap (◌|| in_spans (offset_from w b first) (set_rows base rest) x) (spans-run (offset_from w b first) s.len s.rise (to - from) from x (omega (arith, last, inside)) ∙ range)
       where
-        range : within 0 (offset_from w b first (base + from)) (offset_from w b first (base + from + (base + to - (base + from)))) x ≡ within 0 lo hi x
+        range : within 0 (offset_from w b first from) (offset_from w b first (from + (to - from))) x ≡ within 0 lo hi x
         range = ap₂ (λ (a c : ℕ). within 0 a c x) (sym el) (ap (offset_from w b first) last ∙ sym eh)
 
 -- ---- what a list hands on

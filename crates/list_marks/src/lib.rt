@@ -15,9 +15,10 @@ ghost use Rattle.marks.specs.Marks.{Marked, MarkedPart};
 ghost use Rattle.spans.specs.Spans.{offset_from};
 ghost use Rattle.list_marks.specs.Spans.{in_spans, Spanning};
 
-use nesting::table::{number, valid_rows};
-use slots::Bits;
+use nesting::table::valid_rows;
+use slots::{Bits, Source};
 use spans::first_offset;
+use words::{RowRuns, read_number};
 
 // The child rows of the rows base + k for the set bits k of a word, set in their bitmap: run by run, by offsets of w bytes from `first` on.
 fn mark_rows(journal: &[u8], first: usize, w: usize, base: usize, word: u64, region: &mut [u8])
@@ -25,13 +26,10 @@ fn mark_rows(journal: &[u8], first: usize, w: usize, base: usize, word: u64, reg
     requires spanning { Spanning w journal.now first (set_rows base word) (8 * length region.old) }
     ensures { Marked (in_spans (offset_from w journal.now first) (set_rows base word)) region.old region.new }
 {
-    let mut rest = word;
-    while rest != 0 {
-        let run = words::low_run(rest);
-        let lo = number(journal, first + w * (base + run.from), w);
-        let hi = number(journal, first + w * (base + run.to), w);
+    for (from, to) in RowRuns::new(base, word) {
+        let lo = read_number(journal, first + w * from, w) as usize;
+        let hi = read_number(journal, first + w * to, w) as usize;
         marks::set_ones(region, lo, hi);
-        rest = run.rest;
     }
 }
 
@@ -66,22 +64,19 @@ fn mark_words(
     ensures { MarkedPart (in_spans (first_number w journal.now i) (picks_from (λ r. slot_of (cond in_mask mask.now (take at scratch.old)) bits r && valid journal.now i r) bits.len 0)) at (next - at) scratch.old scratch.new }
 {
     let first = first_offset(journal, table, w, i);
-    let len = bits.len;
-    let mut m: usize = 0;
-    while 64 * m < len {
-        let source = standing(mask, &scratch[..at], in_mask);
-        let x = if 64 * m + 128 <= len {
-            slots::word_in(source, bits, m)
-        } else {
-            slots::word(source, bits, m)
+    for m in 0..bits.len.div_ceil(64) {
+        let source = Source {
+            bytes: standing(mask, &scratch[..at], in_mask),
+            bits,
         };
+        let x = source.word(m);
         let base = 64 * m;
-        m += 1;
         // An empty word costs this test alone.
-        if x != 0 {
-            let kept = valid_rows(journal, table, w, i, base, x);
-            mark_rows(journal, first, w, base, kept, &mut scratch[at..next]);
+        if x == 0 {
+            continue;
         }
+        let kept = valid_rows(journal, table, w, i, base, x);
+        mark_rows(journal, first, w, base, kept, &mut scratch[at..next]);
     }
 }
 
@@ -107,7 +102,7 @@ pub fn mark_lists(
     let n = table[10 * i + 12] as usize;
     let size = (n + 7) / 8;
     let next = at + size;
-    marks::fill(&mut scratch[at..next], 0, size, 0);
+    scratch[at..next].fill(0);
     mark_words(mask, in_mask, bits, journal, table, i, w, scratch, at, next);
     next
 }

@@ -1,17 +1,18 @@
 -- A part of a buffer written whole; the same byte many times; of the tests of slots, one, and how long they are packed. Assumes nothing.
 use Prim.Native.Nat.{ℕ, zero, suc, ◌+◌, ◌-◌, ◌≤◌, ◌<◌}
 use mathlib.Core.Bool.{Bool, false}
-use mathlib.Core.List.{List, [], ◌∷◌, ◌++◌, append_assoc}
+use mathlib.Core.List.{List, ◌++◌, append_assoc, append-nil}
 use mathlib.Core.Path.{◌≡◌, sym, ap, ◌∙◌}
 use native.Mathlib.Nat.{add-zero, add-suc, suc-add}
 use native.Mathlib.Omega.{arith}
-use lib.ListN.{length, get_or, replicate, take, drop}
-use lib.Seq.{drop-drop}
-use Rattle.format.specs.Bytes.{bytes_for, packed}
+use lib.ListN.{length, get_or, replicate, take, drop, length-replicate, length-take, length-drop}
+use borrow.Rule.Slice.PartMut.{put_mid}
+use lib.Seq.{drop-drop, drop-length}
+use Rattle.format.specs.Bytes.{bytes_for, packed, over}
 use Rattle.format.specs.Slots.{slots_from}
 use Rattle.format.specs.Put.{Wrote}
 use Rattle.format.proofs.Measure.{length-packed}
-use Rattle.format.proofs.Put.{put-parts}
+use Rattle.format.proofs.Put.{put-parts, put_front}
 use Rattle.format.proofs.SlotLaws.{length-slots}
 
 -- a part of a buffer written whole
@@ -22,13 +23,23 @@ part-wrote {old} {ys} {bs} at size same e fit n =
       place = omega arith;
     }
 
--- ---- the same byte many times, of which those from j on are left
+-- all of a buffer filled with one byte
+pub filled-wrote : {old new : List ℕ} (x : ℕ) → new ≡ replicate (length old) x → Wrote old 0 (replicate (length old) x) new (length old)
+unfolding over
+filled-wrote {old} {new} x e =
+    let long : length (replicate (length old) x) ≡ length old = length-replicate (length old) x in
+    record {
+      bytes = e ∙ sym (put_front old (replicate (length old) x) (omega arith) ∙ rw (long, drop-length old) (append-nil _));
+      place = omega (arith, length-replicate (length old) x);
+    }
 
-pub same_next : (x n j : ℕ) → j < n → ◌≡◌ {A = List ℕ} (replicate (n - j) x) (x ∷ replicate (n - (j + 1)) x)
-same_next x n j h = let e : n - j ≡ suc (n - (j + 1)) = omega arith in rw e
-
-pub same_none : (x n j : ℕ) → n ≤ j → ◌≡◌ {A = List ℕ} (replicate (n - j) x) []
-same_none x n j h = let e : n - j ≡ 0 = omega arith in rw e
+-- a part of it
+pub part-filled : (old : List ℕ) (from to x : ℕ) {ys : List ℕ} → from ≤ to → to ≤ length old → ys ≡ replicate (length (take (to - from) (drop from old))) x
+    → Wrote old from (replicate (to - from) x) (put_mid from (to - from) old ys) to
+part-filled old from to x {ys} l h e =
+    let long : length (take (to - from) (drop from old)) ≡ to - from = simp (length-take, length-drop) (omega arith) in
+    let same : ys ≡ replicate (to - from) x = e ∙ ap (λ (n : ℕ). replicate n x) long in
+    part-wrote from (to - from) same (length-replicate (to - from) x) (omega arith) (omega arith)
 
 -- ---- the tests of slots: one by one, and packed
 

@@ -1,22 +1,11 @@
 // Ranges of bits set in a slice of bytes, bit 0 of a byte first.
 #![tactic(auto)]
 
-ghost use Rattle.std.specs.Prelude.{◌+◌, ◌-◌, ◌*◌, ◌≤◌, ◌<◌, length, replicate};
+ghost use Rattle.std.specs.Prelude.{◌+◌, ◌*◌, ◌≤◌, ◌<◌, length};
 ghost use Rattle.format.specs.Bytes.{within};
-ghost use Rattle.format.specs.Put.{Wrote};
 ghost use Rattle.marks.specs.Marks.{Marked};
 
-// Bytes [from, to) become x: a plain loop, which the compiler makes one fill of memory.
-pub fn fill(s: &mut [u8], from: usize, to: usize, x: u8)
-    requires { (from ≤ to) × (to ≤ length s.old) }
-    ensures { Wrote s.old from (replicate (to - from) x) s.new to }
-{
-    let mut j = from;
-    while j < to {
-        s[j] = x;
-        j += 1;
-    }
-}
+use words::Number;
 
 // Bits [from, to) of byte j set.
 fn mark_byte(s: &mut [u8], j: usize, from: usize, to: usize)
@@ -24,7 +13,7 @@ fn mark_byte(s: &mut [u8], j: usize, from: usize, to: usize)
     ensures { Marked (within 0 (8 * j + from) (8 * j + to)) s.old s.new }
 {
     let ones = (1u64 << to) - (1u64 << from);
-    s[j] = s[j] | ones as u8;
+    s[j] |= ones as u8;
 }
 
 // Bits [from, to) of the eight bytes from byte j on set: one load and one store. The top bit is left out, for a shift goes by less than 64.
@@ -33,8 +22,8 @@ fn mark_word(s: &mut [u8], j: usize, from: usize, to: usize)
     ensures { Marked (within 0 (8 * j + from) (8 * j + to)) s.old s.new }
 {
     let ones = (1u64 << to) - (1u64 << from);
-    let x = words::get64(s, j) | ones;
-    words::put64(s, j, x);
+    let x = u64::get(s, j) | ones;
+    x.put(s, j);
 }
 
 // Bits [lo, hi) set, of which there is one: the first byte and the last by themselves, all between at once.
@@ -49,7 +38,7 @@ fn mark_bytes(s: &mut [u8], lo: usize, hi: usize)
         return;
     }
     mark_byte(s, a, lo % 8, 8);
-    fill(s, a + 1, e, 255);
+    s[a + 1..e].fill(255);
     if hi % 8 != 0 {
         mark_byte(s, e, 0, hi % 8);
     }

@@ -12,10 +12,10 @@ ghost use Rattle.slots.specs.Source.{Lies};
 ghost use Rattle.nesting.specs.Rows.{picks_of, Ready, Counts, Table};
 ghost use Rattle.measure.specs.Size.{body_end};
 
+use format::Kind;
 use kept_counts::count_kept;
 use kept_data::data::{any_null, data_length};
 use nesting::table::{RUNS, node_count, takes_scratch};
-use pack::read::kind_of;
 use size::{bytes_for, first_size, grow, has_first, has_second, raise, second_size};
 use slots::Bits;
 
@@ -73,7 +73,7 @@ fn node_end(
 {
     let c = counts[i];
     let k = table[10 * i];
-    let kind = kind_of(k);
+    let kind = Kind::from(k);
     let p = table[10 * i + 1] as usize;
     let q = runs_kept(counts, k, i);
     let d = data_length(mask, bits, journal, table, parents, counts, i);

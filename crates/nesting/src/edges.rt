@@ -6,8 +6,7 @@ ghost use Rattle.slots.specs.Source.{Lies};
 ghost use Rattle.nesting.specs.Rows.{picks_of, edge, AtRuns, RootRuns};
 
 use crate::table::{least, run_end};
-use pack::read::less;
-use slots::Bits;
+use slots::{Bits, Source};
 
 // Where run j of runs node i ends among len slots.
 pub fn end_edge(journal: &[u8], table: &[u32; 640], i: usize, j: usize, len: usize) -> usize
@@ -16,7 +15,7 @@ pub fn end_edge(journal: &[u8], table: &[u32; 640], i: usize, j: usize, len: usi
     ensures { result ≡ edge journal.now i len (j + 1) }
 {
     let skip = table[10 * i + 3] as usize;
-    least(less(run_end(journal, table, i, j), skip), len)
+    least(run_end(journal, table, i, j).saturating_sub(skip), len)
 }
 
 // How many runs have a picked slot. Each run end is read once.
@@ -27,20 +26,13 @@ pub fn count_runs(mask: &[u8], bits: Bits, journal: &[u8], table: &[u32; 640], i
 {
     let len = bits.len;
     let runs = table[10 * i + 12] as usize;
+    let source = Source { bytes: mask, bits };
     let mut n: usize = 0;
     let mut lo: usize = 0;
-    let mut j: usize = 0;
-    while j < runs {
+    for j in 0..runs {
         let hi = end_edge(journal, table, i, j, len);
-        // A run that is one word of the mask is asked without a call.
-        let some = if (hi - lo <= 57) & (lo + 64 <= len) {
-            scan::any_short(mask, bits, lo, hi)
-        } else {
-            scan::any_within(mask, bits, lo, hi)
-        };
-        n += some as usize;
+        n += usize::from(scan::any_within(source, lo, hi));
         lo = hi;
-        j += 1;
     }
     n
 }

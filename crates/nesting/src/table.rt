@@ -8,6 +8,8 @@ ghost use Rattle.format.specs.Verdict.{one_of};
 ghost use Rattle.format.specs.Accepted.{Shape};
 ghost use Rattle.nesting.specs.Rows.{by_offsets, Table, AtRuns, AtList};
 
+use words::{Number, read_number};
+
 // Kinds by number: the children of runs keep its runs, those of struct and union its rows, those of lists the rows of kept valid lists; all others are
 // carried with all rows.
 const NATIVE: u32 = 2;
@@ -24,8 +26,7 @@ pub const LIST32: u32 = 13;
 
 pub const LIST64: u32 = 14;
 
-// Validity at this place: no bitmap.
-pub const NO_BITMAP: u32 = 0xFFFF_FFFF;
+pub use pack::NO_BITMAP;
 
 // A node of this kind has a bitmap in scratch for its child: runs and lists.
 pub fn takes_scratch(kind: u32) -> bool
@@ -75,7 +76,7 @@ pub fn node_count(journal: &[u8]) -> usize
     requires { Shape journal.now }
     ensures { result ≡ node_count journal.now }
 {
-    words::get32(journal, journal.len() - 12) as usize
+    u32::get(journal, journal.len() - 12) as usize
 }
 
 // The fields of all nodes: field k of node i at 10 i + k.
@@ -84,29 +85,14 @@ pub fn table_of(journal: &[u8]) -> [u32; 640]
     ensures { Table journal.now result }
 {
     let mut table = [0u32; 640];
-    let start = words::get32(journal, journal.len() - 16) as usize;
+    let start = u32::get(journal, journal.len() - 16) as usize;
     let n = 10 * node_count(journal);
     let mut j: usize = 0;
     while j < n {
-        table[j] = words::get32(journal, start + 4 * j);
+        table[j] = u32::get(journal, start + 4 * j);
         j += 1;
     }
     table
-}
-
-// The number of 2, 4 or 8 bytes at a place.
-pub fn number(s: &[u8], at: usize, w: usize) -> usize
-    requires w_value { one_of (2 ∷ 4 ∷ 8 ∷ []) w ≡ true }
-    requires w_in_bounds { at + w ≤ length s.now }
-    ensures { result ≡ le w s.now at }
-{
-    if w == 2 {
-        return words::get16(s, at) as usize;
-    }
-    if w == 4 {
-        return words::get32(s, at) as usize;
-    }
-    words::get64(s, at) as usize
 }
 
 // Where run j of runs node i ends.
@@ -117,7 +103,7 @@ pub fn run_end(journal: &[u8], table: &[u32; 640], i: usize, j: usize) -> usize
 {
     let w = table[10 * i + 1] as usize;
     let at = table[10 * i + 6] as usize;
-    number(journal, at + w * j, w)
+    read_number(journal, at + w * j, w) as usize
 }
 
 // Where it starts: at the end before it.
@@ -140,7 +126,7 @@ pub fn list_start(journal: &[u8], table: &[u32; 640], w: usize, i: usize, r: usi
 {
     let at = table[10 * i + 6] as usize;
     let skip = table[10 * i + 3] as usize;
-    number(journal, at + w * (skip + r), w)
+    read_number(journal, at + w * (skip + r), w) as usize
 }
 
 // Row r of list node i is valid.

@@ -3,12 +3,12 @@ use Prim.Native.Nat.{ℕ, suc, ◌+◌, ◌*◌, ◌^◌, ◌≤◌, ◌<◌}
 use mathlib.Core.Path.{◌≡◌, refl, sym, ap, ◌∙◌}
 use mathlib.Core.Bool.{Bool}
 use mathlib.Core.List.{List, map}
-use mathlib.Core.Logic.{◌⊎◌}
+use mathlib.Core.Logic.{◌⊎◌, inl, inr}
 use native.Mathlib.Nat.{add_assoc, add-suc, mul-add, mul-le-mul_left, one-mul}
 use native.Mathlib.Omega.{arith}
 use lib.ListN.{length}
 use Rattle.format.specs.declared.Kind.{Kind}
-use Rattle.format.specs.declared.Kind.TheVariants.{Bits as BitsKind, Native, Fixed, Bytes32, Bytes64, Views, Runs, Struct, Union, Dictionary, Nested32, Nested64, Unknown}
+use Rattle.format.specs.declared.Kind.TheVariants.{Bits as BitsKind, Native, Fixed, Views, Runs, Struct, Union, Dictionary, Nested32, Nested64, Unknown}
 use Rattle.format.specs.Bytes.{bit_at, packed}
 use Rattle.format.specs.Accepted as Accepted
 use Rattle.format.specs.Kept.{cells, texts, own_bytes}
@@ -29,7 +29,7 @@ use Rattle.predicate.specs.Selection.{kept_by}
 use Rattle.slots.specs.declared.Bits.{Bits}
 use Rattle.nodes.proofs.NullLaws.{map_same}
 use Rattle.buffers.specs.Place.{rows_by}
-use Rattle.nodes.specs.Place.{Picked, Copies, Sizes, sizes32, sizes64, of_native, of_fixed, of_views, of_lists32, of_lists64, of_union, of_dictionary}
+use Rattle.nodes.specs.Place.{Picked, ByteColumn, bytes32, bytes64, Copies, Sizes, sizes32, sizes64, of_native, of_fixed, of_views, of_lists32, of_lists64, of_union, of_dictionary}
 
 module _ (b : List ℕ) (i : ℕ) (rs : List ℕ) where
   pub first-copies : {k : Kind} {w : ℕ} → Copies k (param b i) w → first (cells k b i rs) ≡ holds (entries_of w b (first_at b i + w * skip b i) rs)
@@ -116,18 +116,39 @@ module _ {b : List ℕ} {i : ℕ} {node : Node} {sel : Selection} {s : List ℕ}
 
 -- ---- byte columns
 
-module _ {b : List ℕ} {i : ℕ} {node : Node} {sel : Selection} {s : List ℕ} {mask : Bits} {list : List ℕ} (p : Picked b i node sel s mask list) (w : ℕ) (width : (w ≡ 4) ⊎ (w ≡ 8)) (o : Accepted.Offsets w b i) where
+pub column-narrow : {k : Kind} {w : ℕ} → ByteColumn k w → w ≤ 1024
+column-narrow bytes32 = omega arith
+column-narrow bytes64 = omega arith
+
+column-width : {k : Kind} {w : ℕ} → ByteColumn k w → (w ≡ 4) ⊎ (w ≡ 8)
+column-width bytes32 = inl refl
+column-width bytes64 = inr refl
+
+column-cells : (b : List ℕ) (i : ℕ) (rs : List ℕ) {k : Kind} {w : ℕ} → ByteColumn k w → cells k b i rs ≡ texts w (map (own_bytes w b i) rs)
+unfolding cells
+column-cells b i rs bytes32 = refl
+column-cells b i rs bytes64 = refl
+
+module _ {b : List ℕ} {i : ℕ} {node : Node} {sel : Selection} {s : List ℕ} {mask : Bits} {list : List ℕ} (p : Picked b i node sel s mask list) {w : ℕ} (c : ByteColumn (kind b i) w) where
+  column-offsets : Accepted.Offsets w b i
+  column-offsets = go refl c
+    where
+      go : {k : Kind} {v : ℕ} → kind b i ≡ k → ByteColumn k v → Accepted.Offsets v b i
+      go e bytes32 = p.sound.offsets32 i p.inside e
+      go e bytes64 = p.sound.offsets64 i p.inside e
+
   -- offsets and own bytes lie in the journal for the rows that the mask has
   pub texts-lie : Texts 1 w b (first_at b i + w * skip b i) (second_at b i) mask.len
   unfolding places start_in
   texts-lie =
+      let o = column-offsets in
       let table = p.sound.shape.table in
       let lie = o.lie in
       let data_lies = o.data_lies in
       let short = p.short in
       let last = o.inside mask.len short in
       record {
-        width = width;
+        width = column-width c;
         offsets = record {
           inside = entries-after w (length b) (first_at b i) (skip b i) (suc (rows b i)) 0 (suc mask.len) (rw add-suc (omega arith)) (omega arith);
           rising = λ r l. rw (first-offset w b i r, first-offset w b i (suc r)) (o.rise r (omega arith));
@@ -135,22 +156,11 @@ module _ {b : List ℕ} {i : ℕ} {node : Node} {sel : Selection} {s : List ℕ}
         within = rw (first-offset w b i mask.len) (omega arith);
       }
 
--- what a byte column's cells are, by its kind
-pub cells-32 : (b : List ℕ) (i : ℕ) (rs : List ℕ) → kind b i ≡ Bytes32 → cells (kind b i) b i rs ≡ texts 4 (map (own_bytes 4 b i) rs)
-unfolding cells
-cells-32 b i rs k = rw k
-
-pub cells-64 : (b : List ℕ) (i : ℕ) (rs : List ℕ) → kind b i ≡ Bytes64 → cells (kind b i) b i rs ≡ texts 8 (map (own_bytes 8 b i) rs)
-unfolding cells
-cells-64 b i rs k = rw k
-
-module _ {b : List ℕ} {i : ℕ} {node : Node} {sel : Selection} {s : List ℕ} {mask : Bits} {list : List ℕ} (p : Picked b i node sel s mask list) (w : ℕ) (width : (w ≡ 4) ⊎ (w ≡ 8)) (o : Accepted.Offsets w b i)
-    (is : cells (kind b i) b i (rows_by sel s mask) ≡ texts w (map (own_bytes w b i) (rows_by sel s mask))) where
   pub first-texts-are : first (cells (kind b i) b i (rows_by sel s mask)) ≡ holds (numbers w (offsets (sizes_of (offset w b (first_at b i + w * skip b i)) (rows_by sel s mask))))
-  first-texts-are = ap first is ∙ first-of-texts w b i (rows_by sel s mask) (kept-among (kept_by sel s mask) mask.len (texts-lie p w width o))
+  first-texts-are = ap first (column-cells b i (rows_by sel s mask) c) ∙ first-of-texts w b i (rows_by sel s mask) (kept-among (kept_by sel s mask) mask.len texts-lie)
 
   pub second-texts-are : second (cells (kind b i) b i (rows_by sel s mask)) ≡ holds (texts_of (start_in 1 w b (first_at b i + w * skip b i)) b (second_at b i) (rows_by sel s mask))
-  second-texts-are = ap second is ∙ second-of-texts w b i (rows_by sel s mask)
+  second-texts-are = ap second (column-cells b i (rows_by sel s mask) c) ∙ second-of-texts w b i (rows_by sel s mask)
 
 -- ---- runs
 

@@ -37,10 +37,6 @@ pub nests-narrow : {w : ℕ} {k : Kind} → Nests w k → w ≤ 1024
 nests-narrow Accepted.Nests.nested32 = omega arith
 nests-narrow Accepted.Nests.nested64 = omega arith
 
-pub nests-wide : {w : ℕ} {k : Kind} → Nests w k → (w ≡ 4 → ⊥) → w ≡ 8
-nests-wide Accepted.Nests.nested32 f = absurd (f refl)
-nests-wide Accepted.Nests.nested64 f = refl
-
 nests-width : {w : ℕ} {k : Kind} → Nests w k → one_of (2 ∷ 4 ∷ 8 ∷ []) w ≡ true
 unfolding one_of
 nests-width Accepted.Nests.nested32 = refl
@@ -152,13 +148,13 @@ module _ {b : List ℕ} {i : ℕ} {node : Node} {sel : Selection} {s : List ℕ}
         small = omega arith;
       }
 
-  -- ---- as the code asks and writes: without a bitmap by a width of its own
-  module _ (v place : ℕ) (wide : w ≡ v) (at : place ≡ first_at b i + w * skip b i) where
-    pub plain-lies : Offsets v b place mask.len
-    plain-lies = rw (at, ← wide) list-offsets
+  -- ---- as the code asks and writes: without a bitmap as a byte column
+  module _ (place : ℕ) (at : place ≡ first_at b i + w * skip b i) where
+    pub plain-lies : Offsets w b place mask.len
+    plain-lies = rw at list-offsets
 
-    pub first_plain : has_no_bitmap b i ≡ true → (rs : List ℕ) → first (cells (kind b i) b i rs) ≡ holds (numbers v (offsets (sizes_of (offset v b place) rs)))
-    first_plain h rs = first-spans-are b i rs k ∙ rw (at, ← wide) (ap (λ (l : List ℕ). holds (numbers w (offsets l))) (sizes-plain w b i h rs))
+    pub first_plain : has_no_bitmap b i ≡ true → (rs : List ℕ) → first (cells (kind b i) b i rs) ≡ holds (numbers w (offsets (sizes_of (offset w b place) rs)))
+    first_plain h rs = first-spans-are b i rs k ∙ rw at (ap (λ (l : List ℕ). holds (numbers w (offsets l))) (sizes-plain w b i h rs))
 
   -- and with one by the bits from `from` on
   module _ (place from : ℕ) (at : place ≡ first_at b i + w * skip b i) (bit : from ≡ 8 * node.validity_at + node.skip) (h : has_no_bitmap b i ≡ false) where

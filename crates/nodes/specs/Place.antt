@@ -1,7 +1,7 @@
 -- What one node asks of the selection that picks its rows, and which kinds copy entries. Assumes nothing.
 use Rattle.std.specs.Prelude.{ℕ, ◌≤◌, ◌<◌, List, ◌≡◌}
 use Rattle.format.specs.declared.Kind.{Kind}
-use Rattle.format.specs.declared.Kind.TheVariants.{Native, Fixed, Views, Lists32, Lists64, Runs, Union, Dictionary}
+use Rattle.format.specs.declared.Kind.TheVariants.{Native, Fixed, Bytes32, Bytes64, Views, Lists32, Lists64, Runs, Union, Dictionary}
 use Rattle.format.specs.Accepted.{Sound}
 use Rattle.format.specs.Node.{node_count, kind, rows, child}
 use Rattle.pack.specs.Read.{node_of}
@@ -28,6 +28,11 @@ pub data Copies : Kind → ℕ → ℕ → Type 0 where
   of_lists64 : {p : ℕ} → Copies Lists64 p 8
   of_union : {p : ℕ} → Copies Union p 1
   of_dictionary : {p : ℕ} → Copies Dictionary p p
+
+-- the kinds of byte columns: kind, and bytes to an offset
+pub data ByteColumn : Kind → ℕ → Type 0 where
+  bytes32 : ByteColumn Bytes32 4
+  bytes64 : ByteColumn Bytes64 8
 
 -- the kinds that are nothing but entries of param bytes: no second buffer, no child
 pub data Flat : Kind → Type 0 where

@@ -8,7 +8,7 @@ ghost use Rattle.format.specs.Node.{valid, has_no_bitmap, no_bitmap, rows, kind,
 ghost use Rattle.format.specs.Verdict.{pack_limit};
 ghost use Rattle.format.specs.Write.{nulls, any_null, bitmap, first, second};
 ghost use Rattle.buffers.specs.Place.{appended, rows_by, Puts};
-ghost use Rattle.nodes.specs.Place.{Picked, Copies, Sizes, Kinded};
+ghost use Rattle.nodes.specs.Place.{Picked, ByteColumn, Copies, Sizes, Kinded};
 ghost use Rattle.pack.specs.Read.{node_of};
 
 use buffers::Placed;
@@ -16,6 +16,8 @@ use format::Kind;
 use pack::Node;
 use predicate::Selection;
 use slots::Bits;
+use texts::OwnBytes;
+use words::Number;
 
 // Validity at this place: no bitmap.
 pub const NO_BITMAP: usize = 0xFFFF_FFFF;
@@ -117,8 +119,8 @@ fn first_bits(
     buffers::put_bits(out, at, journal, from, sel, s, mask, list, count)
 }
 
-// The first buffer of a byte column with offsets of 4 bytes.
-fn first_offsets32(
+// The first buffer of a byte column: the offsets.
+fn first_offsets<N: Number>(
     out: &mut [u8],
     at: usize,
     journal: &[u8],
@@ -130,103 +132,16 @@ fn first_offsets32(
     list: &[u32],
 ) -> Placed
     requires picked { Picked journal.now i node sel s.now mask list.now }
-    requires i_value { kind journal.now i ≡ Kind.Bytes32 }
+    requires column { ByteColumn (kind journal.now i) N.WIDTH }
     requires mask_in_bounds { at + length (appended at (first (cells (kind journal.now i) journal.now i (rows_by sel s.now mask)))) ≤ length out.old }
     ensures { Puts 0 (first (cells (kind journal.now i) journal.now i (rows_by sel s.now mask))) out.old at out.new result }
 {
-    let place = row_zero(node.first_at, 4, node.skip);
-    buffers::put_offsets32(out, at, journal, place, sel, s, mask, list)
+    let place = row_zero(node.first_at, N::WIDTH, node.skip);
+    buffers::put_offsets::<N>(out, at, journal, place, sel, s, mask, list)
 }
 
-// Its second buffer: the data.
-fn second_texts32(
-    out: &mut [u8],
-    at: usize,
-    journal: &[u8],
-    i: usize,
-    node: Node,
-    sel: Selection,
-    s: &[u8],
-    mask: Bits,
-    list: &[u32],
-) -> Placed
-    requires picked { Picked journal.now i node sel s.now mask list.now }
-    requires i_value { kind journal.now i ≡ Kind.Bytes32 }
-    requires mask_in_bounds { at + length (appended at (second (cells (kind journal.now i) journal.now i (rows_by sel s.now mask)))) ≤ length out.old }
-    ensures { Puts 0 (second (cells (kind journal.now i) journal.now i (rows_by sel s.now mask))) out.old at out.new result }
-{
-    let place = row_zero(node.first_at, 4, node.skip);
-    buffers::put_texts(
-        out,
-        at,
-        journal,
-        place,
-        4,
-        node.second_at as usize,
-        1,
-        sel,
-        s,
-        mask,
-        list,
-    )
-}
-
-// The first buffer of a byte column with offsets of 8 bytes.
-fn first_offsets64(
-    out: &mut [u8],
-    at: usize,
-    journal: &[u8],
-    i: usize,
-    node: Node,
-    sel: Selection,
-    s: &[u8],
-    mask: Bits,
-    list: &[u32],
-) -> Placed
-    requires picked { Picked journal.now i node sel s.now mask list.now }
-    requires i_value { kind journal.now i ≡ Kind.Bytes64 }
-    requires mask_in_bounds { at + length (appended at (first (cells (kind journal.now i) journal.now i (rows_by sel s.now mask)))) ≤ length out.old }
-    ensures { Puts 0 (first (cells (kind journal.now i) journal.now i (rows_by sel s.now mask))) out.old at out.new result }
-{
-    let place = row_zero(node.first_at, 8, node.skip);
-    buffers::put_offsets64(out, at, journal, place, sel, s, mask, list)
-}
-
-// Its second buffer: the data.
-fn second_texts64(
-    out: &mut [u8],
-    at: usize,
-    journal: &[u8],
-    i: usize,
-    node: Node,
-    sel: Selection,
-    s: &[u8],
-    mask: Bits,
-    list: &[u32],
-) -> Placed
-    requires picked { Picked journal.now i node sel s.now mask list.now }
-    requires i_value { kind journal.now i ≡ Kind.Bytes64 }
-    requires mask_in_bounds { at + length (appended at (second (cells (kind journal.now i) journal.now i (rows_by sel s.now mask)))) ≤ length out.old }
-    ensures { Puts 0 (second (cells (kind journal.now i) journal.now i (rows_by sel s.now mask))) out.old at out.new result }
-{
-    let place = row_zero(node.first_at, 8, node.skip);
-    buffers::put_texts(
-        out,
-        at,
-        journal,
-        place,
-        8,
-        node.second_at as usize,
-        1,
-        sel,
-        s,
-        mask,
-        list,
-    )
-}
-
-// The first buffer of a list with offsets of `width` bytes: without a bitmap as a byte column's, and else a null row has no child row.
-fn first_spans(
+// Its second buffer: the data, by offsets of `width` bytes.
+fn second_texts(
     out: &mut [u8],
     at: usize,
     journal: &[u8],
@@ -239,20 +154,45 @@ fn first_spans(
     list: &[u32],
 ) -> Placed
     requires picked { Picked journal.now i node sel s.now mask list.now }
-    requires nests { Nests width (kind journal.now i) }
+    requires column { ByteColumn (kind journal.now i) width }
+    requires mask_in_bounds { at + length (appended at (second (cells (kind journal.now i) journal.now i (rows_by sel s.now mask)))) ≤ length out.old }
+    ensures { Puts 0 (second (cells (kind journal.now i) journal.now i (rows_by sel s.now mask))) out.old at out.new result }
+{
+    let place = row_zero(node.first_at, width, node.skip);
+    let own = OwnBytes {
+        src: journal,
+        first: place,
+        width,
+        start: node.second_at as usize,
+        unit: 1,
+    };
+    buffers::put_texts(out, at, own, sel, s, mask, list)
+}
+
+// The first buffer of a list: without a bitmap as a byte column's, and else a null row has no child row.
+fn first_spans<N: Number>(
+    out: &mut [u8],
+    at: usize,
+    journal: &[u8],
+    i: usize,
+    node: Node,
+    sel: Selection,
+    s: &[u8],
+    mask: Bits,
+    list: &[u32],
+) -> Placed
+    requires picked { Picked journal.now i node sel s.now mask list.now }
+    requires nests { Nests N.WIDTH (kind journal.now i) }
     requires mask_in_bounds { at + length (appended at (first (cells (kind journal.now i) journal.now i (rows_by sel s.now mask)))) ≤ length out.old }
     ensures { Puts 0 (first (cells (kind journal.now i) journal.now i (rows_by sel s.now mask))) out.old at out.new result }
 {
-    let place = row_zero(node.first_at, width, node.skip);
+    let place = row_zero(node.first_at, N::WIDTH, node.skip);
     let validity = node.validity_at as usize;
     if validity == NO_BITMAP {
-        if width == 4 {
-            return buffers::put_offsets32(out, at, journal, place, sel, s, mask, list);
-        }
-        return buffers::put_offsets64(out, at, journal, place, sel, s, mask, list);
+        return buffers::put_offsets::<N>(out, at, journal, place, sel, s, mask, list);
     }
     let from = 8 * validity + node.skip as usize;
-    buffers::put_spans(out, at, journal, width, place, from, sel, s, mask, list)
+    buffers::put_spans::<N>(out, at, journal, place, from, sel, s, mask, list)
 }
 
 // The first buffer of a node of entries of `width` bytes, node i + 1, under a list with no bitmap, node i, whose rows are selected: copied by the list's offsets, of w bytes.
@@ -278,7 +218,14 @@ pub fn first_values(
 {
     let place = row_zero(above.first_at, w, above.skip);
     let start = row_zero(node.first_at, width, node.skip);
-    buffers::put_texts(out, at, journal, place, w, start, width, sel, s, mask, list)
+    let own = OwnBytes {
+        src: journal,
+        first: place,
+        width: w,
+        start,
+        unit: width,
+    };
+    buffers::put_texts(out, at, own, sel, s, mask, list)
 }
 
 // The first buffer of a runs node, whose child has n rows.
@@ -338,8 +285,8 @@ pub fn filter_first(
         Kind::Bits => return first_bits(out, at, journal, i, node, count, sel, s, mask, list),
         Kind::Native => return first_entries(out, at, journal, i, node, width, sel, s, mask, list),
         Kind::Fixed => return first_entries(out, at, journal, i, node, width, sel, s, mask, list),
-        Kind::Bytes32 => return first_offsets32(out, at, journal, i, node, sel, s, mask, list),
-        Kind::Bytes64 => return first_offsets64(out, at, journal, i, node, sel, s, mask, list),
+        Kind::Bytes32 => return first_offsets::<u32>(out, at, journal, i, node, sel, s, mask, list),
+        Kind::Bytes64 => return first_offsets::<u64>(out, at, journal, i, node, sel, s, mask, list),
         Kind::Views => return first_entries(out, at, journal, i, node, 16, sel, s, mask, list),
         Kind::Lists32 => return first_entries(out, at, journal, i, node, 4, sel, s, mask, list),
         Kind::Lists64 => return first_entries(out, at, journal, i, node, 8, sel, s, mask, list),
@@ -349,8 +296,8 @@ pub fn filter_first(
         Kind::Dictionary => {
             return first_entries(out, at, journal, i, node, width, sel, s, mask, list);
         }
-        Kind::Nested32 => return first_spans(out, at, journal, i, node, 4, sel, s, mask, list),
-        Kind::Nested64 => return first_spans(out, at, journal, i, node, 8, sel, s, mask, list),
+        Kind::Nested32 => return first_spans::<u32>(out, at, journal, i, node, sel, s, mask, list),
+        Kind::Nested64 => return first_spans::<u64>(out, at, journal, i, node, sel, s, mask, list),
         Kind::Unknown => return Placed { start: 0, next: at },
     }
 }
@@ -399,8 +346,8 @@ pub fn filter_second(
         Kind::Bits => return Placed { start: 0, next: at },
         Kind::Native => return Placed { start: 0, next: at },
         Kind::Fixed => return Placed { start: 0, next: at },
-        Kind::Bytes32 => return second_texts32(out, at, journal, i, node, sel, s, mask, list),
-        Kind::Bytes64 => return second_texts64(out, at, journal, i, node, sel, s, mask, list),
+        Kind::Bytes32 => return second_texts(out, at, journal, i, node, 4, sel, s, mask, list),
+        Kind::Bytes64 => return second_texts(out, at, journal, i, node, 8, sel, s, mask, list),
         Kind::Views => return Placed { start: 0, next: at },
         Kind::Lists32 => return second_sizes(out, at, journal, i, node, 4, sel, s, mask, list),
         Kind::Lists64 => return second_sizes(out, at, journal, i, node, 8, sel, s, mask, list),

@@ -2,11 +2,15 @@
 #![tactic(auto)]
 
 pub mod frame;
+mod open_nodes;
 pub mod read;
 pub mod tree;
 
+// Validity at this place: no bitmap.
+pub const NO_BITMAP: u32 = 0xFFFF_FFFF;
+
 // The trailer: the last 16 bytes.
-#[derive(Clone, Copy)]
+#[derive(Clone, Copy, Debug, PartialEq, Eq)]
 pub struct Trailer {
     pub table_start: u32,
     pub node_count: u32,
@@ -15,7 +19,7 @@ pub struct Trailer {
 }
 
 // A node: its ten fields, in order.
-#[derive(Clone, Copy)]
+#[derive(Clone, Copy, Debug, PartialEq, Eq)]
 pub struct Node {
     pub kind: u32,
     pub param: u32,
@@ -29,10 +33,16 @@ pub struct Node {
     pub last_field: u32,
 }
 
-// Each node's parent and depth (the root's are 0 and 1), and how many nodes are still open after the last.
-#[derive(Clone, Copy)]
+// Where a node stands in the tree: its parent, and its depth. The root's are 0 and 1.
+#[derive(Clone, Copy, Debug, PartialEq, Eq)]
+pub struct Place {
+    pub parent: u32,
+    pub depth: u32,
+}
+
+// Each node's place in the tree, and how many nodes are still open after the last.
+#[derive(Clone, Copy, Debug, PartialEq, Eq)]
 pub struct Walk {
-    pub parents: [u32; 64],
-    pub depths: [u32; 64],
+    pub places: [Place; 64],
     pub unclosed: usize,
 }

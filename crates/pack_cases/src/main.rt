@@ -2,9 +2,11 @@
 // which it is refused as a journal, and as a mask.
 #![tactic(auto)]
 
-ghost use Rattle.std.specs.Prelude.{◌≤◌, ◌<◌, length};
+ghost use Rattle.std.specs.Prelude.{◌<◌, length};
 
+use format::Reason;
 use reading::read_full;
+use std::io;
 
 // The most that a line can hold: a pack of 64 nodes, the most that there may be, has 2,576 bytes of table and trailer.
 const PACK_ROOM: usize = 4096;
@@ -12,42 +14,37 @@ const PACK_ROOM: usize = 4096;
 // The most that the cases together can hold.
 const TEXT_ROOM: usize = 65_536;
 
-// A write that fails is passed over: what is printed is held to stored lines.
-fn say(rt: &impl Print, text: &[u8]) {
-    let _ = rt.write_all(text);
+// The number of a verdict: 0 where the pack is accepted.
+fn number(verdict: Result<(), Reason>) -> u64 {
+    verdict.map_or_else(u64::from, |()| 0)
 }
 
-fn say_number(rt: &impl Print, x: u64) {
-    let _ = rt.print(x);
+// A pack's name and numbers.
+fn report(rt: &impl Print, name: &[u8], pack: &[u8]) -> io::Result<()> {
+    let as_journal = number(checker::check(pack));
+    let as_mask = number(checker::check_mask(pack));
+    rt.write_all(name)?;
+    println!(rt; " {as_journal} {as_mask}")
 }
 
-// The numbers of a pack.
-fn report(rt: &impl Print, pack: &[u8]) {
-    say(rt, b" ");
-    say_number(rt, checker::check(pack));
-    say(rt, b" ");
-    say_number(rt, checker::check_mask(pack));
-    say(rt, b"\n");
-}
-
-// The pack of a line; gives the place behind it.
-fn case(rt: &impl Print, text: &[u8], from: usize) -> usize
-    requires { from < length text.now }
-    ensures { (from < result) × (result ≤ length text.now) }
+// The pack that a text begins with; gives the text behind it.
+fn case<'a>(rt: &impl Print, text: &'a [u8]) -> &'a [u8]
+    requires { 0 < length text.now }
+    ensures { length result.now < length text.now }
 {
-    let mut pack = [0u8; PACK_ROOM];
-    let end = case_text::name_end(text, from + 1);
-    say(rt, &text[from..end]);
-    let part = case_text::read_part(text, end, &mut pack);
+    let mut room = [0u8; PACK_ROOM];
+    let (name, words) = text.split_at(1 + case_text::name_end(&text[1..]));
+    let part = case_text::read_part(words, &mut room);
     let len = part.len;
-    report(rt, &pack[..len]);
-    part.next
+    // A write that fails is passed over: what is printed is held to stored lines.
+    let _ = report(rt, name, &room[..len]);
+    part.rest
 }
 
 fn run(rt: &impl Print, text: &[u8]) {
-    let mut at: usize = 0;
-    while at < text.len() {
-        at = case(rt, text, at);
+    let mut rest = text;
+    while let Some(_) = rest.first() {
+        rest = case(rt, rest);
     }
 }
 

@@ -2,12 +2,12 @@
 #![tactic(auto)]
 
 ghost use Rattle.std.specs.Prelude.{◌≡◌, ◌+◌, ◌*◌, ◌/◌, ◌<◌, ◌≤◌};
-ghost use Rattle.slots.specs.Source.{slot_of, Lies};
+ghost use Rattle.slots.specs.Slot.{slot_in};
 ghost use Rattle.predicate.specs.Selection.{InStep, kept_by, Readable, selection_for, lazy};
 ghost use Rattle.predicate.specs.Blocks.{Worded, Blocked, Found, Filled, NextRun, starts_long, as_runs};
 
 use format::Route;
-use slots::Bits;
+use slots::{Bits, Source};
 
 // How many entries of the lent list are stored; or none are, and the mask is read each time.
 #[derive(Clone, Copy)]
@@ -42,14 +42,13 @@ pub enum Block {
 }
 
 // What is left of one of the mask's last two words: its reads may leave the slice, and its bits the last slot.
-fn last_block(s: &[u8], b: Bits, place: usize, index: usize) -> Block
-    requires lies { Lies s.now b }
-    requires place_lt_len { place < b.len }
-    ensures { Worded (slot_of s.now b) b.len place result }
+fn last_block(source: Source, place: usize, index: usize) -> Block
+    requires { place < source.bits.len }
+    ensures { Worded (slot_in source.entry) source.entry.bits.len place result }
 {
-    let len = b.len;
+    let len = source.bits.len;
     let base = 64 * (place / 64);
-    let x = slots::word_after(s, b, place);
+    let x = source.word_after(place);
     if len <= base + 64 {
         return Block::Word(base, x, Cursor { place: len, index });
     }
@@ -64,17 +63,16 @@ fn last_block(s: &[u8], b: Bits, place: usize, index: usize) -> Block
 }
 
 // Where the kept rows end that start with word `from`: at the first row that is not kept, or before the last two words.
-fn run_end(s: &[u8], b: Bits, from: usize) -> usize
-    requires lies { Lies s.now b }
-    requires from_bound { 64 * from < b.len }
-    ensures { Filled (slot_of s.now b) (64 * from) b.len result }
+fn run_end(source: Source, from: usize) -> usize
+    requires { 64 * from < source.bits.len }
+    ensures { Filled (slot_in source.entry) (64 * from) source.entry.bits.len result }
 {
-    let len = b.len;
-    let w = scan::ones_end(s, b, from);
+    let len = source.bits.len;
+    let w = scan::ones_end(source, from);
     if len < 64 * w + 128 {
         return 64 * w;
     }
-    64 * w + u64::trailing_zeros(scan::ONES - slots::word_in(s, b, w)) as usize
+    64 * w + u64::trailing_zeros(scan::ONES - source.word_in(w)) as usize
 }
 
 // Whether a word has at most two set bits. Nothing is promised: it chooses between two right answers.
@@ -121,10 +119,9 @@ pub fn lazy(sel: Selection) -> bool
 // two rows after the first are not kept. Measured at random masks: against a limit of one, two take up to .08 ns a row more of native columns
 // at 93 to 95 % kept, .04 at 97 % and nothing at 99 %, but 1.3 to 1.9 ns less of texts at 95 to 97 %. In a model of the loops in Rust, four
 // took .1 to .3 more than two of native columns at 90 to 95 %, and gained nothing above.
-fn word_block(s: &[u8], b: Bits, place: usize, w: usize, x: u64, index: usize) -> Block
-    requires lies { Lies s.now b }
-    requires w_bound { (64 * w + 128 ≤ b.len) × Found (slot_of s.now b) place w x }
-    ensures { Worded (slot_of s.now b) b.len place result }
+fn word_block(source: Source, place: usize, w: usize, x: u64, index: usize) -> Block
+    requires { (64 * w + 128 ≤ source.bits.len) × Found (slot_in source) place w x }
+    ensures { Worded (slot_in source.entry) source.entry.bits.len place result }
 {
     let base = 64 * w;
     let t = u64::trailing_zeros(x) as usize;
@@ -141,7 +138,7 @@ fn word_block(s: &[u8], b: Bits, place: usize, w: usize, x: u64, index: usize) -
     }
     let a = base + t;
     if y == 0 {
-        let e = run_end(s, b, w + 1);
+        let e = run_end(source, w + 1);
         return Block::Run(a, e, Cursor { place: e, index });
     }
     let e = base + u64::trailing_zeros(y) as usize;
@@ -157,13 +154,12 @@ pub struct Rows {
 
 // The run of kept rows that starts next in the word of `place`, which may go on in later words; none where that word has no row left. For a column
 // that takes runs itself.
-pub fn run_from(s: &[u8], b: Bits, place: usize) -> Rows
-    requires lies { Lies s.now b }
-    requires place_bound { 64 * (place / 64) + 128 ≤ b.len }
-    ensures { NextRun (slot_of s.now b) b.len place result.from result.to }
+pub fn run_from(source: Source, place: usize) -> Rows
+    requires { 64 * (place / 64) + 128 ≤ source.bits.len }
+    ensures { NextRun (slot_in source.entry) source.entry.bits.len place result.from result.to }
 {
     let w = place / 64;
-    let x = slots::word_in(s, b, w) >> (place % 64) << (place % 64);
+    let x = source.word_in(w) >> (place % 64) << (place % 64);
     if x == 0 {
         return Rows {
             from: place,
@@ -174,7 +170,7 @@ pub fn run_from(s: &[u8], b: Bits, place: usize) -> Rows
     let t = u64::trailing_zeros(x) as usize;
     let y = (scan::ONES - x) >> t << t;
     if y == 0 {
-        let e = run_end(s, b, w + 1);
+        let e = run_end(source, w + 1);
         return Rows {
             from: base + t,
             to: e,
@@ -188,31 +184,30 @@ pub fn run_from(s: &[u8], b: Bits, place: usize) -> Rows
 }
 
 // The rows kept next, by the mask alone: from the word of `place` on, words of zeros are passed over, many of them in fours.
-fn next_word(s: &[u8], b: Bits, place: usize, index: usize) -> Block
-    requires { Lies s.now b }
-    ensures { Worded (slot_of s.now b) b.len place result }
+fn next_word(source: Source, place: usize, index: usize) -> Block
+    ensures { Worded (slot_in source.entry) source.entry.bits.len place result }
 {
-    let len = b.len;
+    let len = source.bits.len;
     if len <= place {
         return Block::End;
     }
     let mut w = place / 64;
     if len < 64 * w + 128 {
-        return last_block(s, b, place, index);
+        return last_block(source, place, index);
     }
-    let mut x = slots::word_in(s, b, w) >> (place % 64) << (place % 64);
+    let mut x = source.word_in(w) >> (place % 64) << (place % 64);
     while x == 0 {
         w = if (w + 1) % scan::SPACING == 0 {
-            scan::blank_end(s, b, w + 1)
+            scan::blank_end(source, w + 1)
         } else {
             w + 1
         };
         if len < 64 * w + 128 {
-            return last_block(s, b, 64 * w, index);
+            return last_block(source, 64 * w, index);
         }
-        x = slots::word_in(s, b, w);
+        x = source.word_in(w);
     }
-    word_block(s, b, place, w, x, index)
+    word_block(source, place, w, x, index)
 }
 
 // The next block of kept rows, whatever the selection: the one place that looks at it.
@@ -248,7 +243,7 @@ pub fn next_block(sel: Selection, s: &[u8], b: Bits, list: &[u32], cur: Cursor) 
                 }
                 return Block::End;
             }
-            Held::Lazy => return next_word(s, b, place, index),
+            Held::Lazy => return next_word(Source { bytes: s, bits: b }, place, index),
         },
         Selection::Rows(h) => match h {
             Held::Stored(n) => {
@@ -264,7 +259,7 @@ pub fn next_block(sel: Selection, s: &[u8], b: Bits, list: &[u32], cur: Cursor) 
                 }
                 return Block::End;
             }
-            Held::Lazy => return next_word(s, b, place, index),
+            Held::Lazy => return next_word(Source { bytes: s, bits: b }, place, index),
         },
     }
 }

@@ -1,5 +1,6 @@
 -- How a mask that is prepared alone is answered, each way by the condition that led to it, and that a whole call gives the same slip. Assumes nothing.
-use Prim.Native.Nat.{ℕ, zero, suc, ◌≤◌, ◌<◌}
+use Prim.Native.Nat.{ℕ, ◌≤◌, ◌<◌}
+use Rattle.std.proofs.Common.{Option, None, Result, Err}
 use mathlib.Core.Bool.{Bool, true, false}
 use mathlib.Core.List.{List}
 use mathlib.Core.Path.{◌≡◌, refl, sym, ◌∙◌}
@@ -10,8 +11,9 @@ use Rattle.format.specs.declared.Route.{Route}
 use Rattle.format.specs.declared.Route.TheVariants as route
 use Rattle.format.specs.declared.Pack.{Pack}
 use Rattle.format.specs.declared.Pack.TheVariants.{Mask, Journal}
-use Rattle.format.specs.declared.Prepared.{Prepared}
-use Rattle.format.specs.declared.Prepared.TheVariants.{Ready, Refused}
+use Rattle.format.specs.declared.Reason.TheVariants.{Count, List as Listing}
+use Rattle.format.specs.declared.Refused.{Refused}
+use Rattle.format.specs.declared.Ready.{Ready}
 use Rattle.format.specs.Bytes.{over}
 use Rattle.format.specs.Node.{rows}
 use Rattle.format.specs.Slots.{picks_from}
@@ -20,8 +22,10 @@ use Rattle.format.specs.Mask as Masks
 use Rattle.format.specs.Mask.{count, mask_length, route_of, entries_for, entries}
 use Rattle.format.specs.Put.{Wrote}
 use Rattle.format.specs.Refusal.{Refusal, unrefused, refused_by, of_verdict, when, ◌then◌, after}
-use Rattle.format.specs.Answer.{Call, Stated, unstated, wrong_count, list_short, stores, preparing, mask_refusal, prepared_at, prepared, prepared_list, Prepares, too_long, refusal_of}
+use Rattle.format.specs.Reason.{reason_of}
+use Rattle.format.specs.Answer.{Call, own_answer, ready_with, refused_for, wrong_count, list_short, stores, preparing, mask_refusal, prepared_at, prepared, prepared_list, Prepares, too_long, refusal_of}
 use Rattle.format.proofs.Put.{wrote-front}
+use Rattle.format.proofs.Reasons.{own_answer-err}
 use Rattle.format.proofs.SlotLaws.{count-le}
 use Rattle.slots.specs.declared.Bits.{Bits}
 use Rattle.slots.specs.Source.{slot_of, Lies}
@@ -66,63 +70,62 @@ module _ {m : List ℕ} {b : Bits} {kept : ℕ} (f : Counted m b kept) where
   entries-are q = rw (q ∙ route-is, f.bits) (mask-entries m)
 
   -- what such a mask is answered
-  pub ready : {r : Route} → r ≡ route_of b.len kept → Ready kept b.len r ≡ Ready (count m) (mask_length m) (Masks.route m)
+  pub ready : {r : Route} → r ≡ route_of b.len kept → ready_with kept b.len r ≡ ready_with (count m) (mask_length m) (Masks.route m)
   unfolding mask_length
   ready q = rw (q ∙ route-is, f.counted, f.bits)
 
 -- ---- once the mask is accepted and its count right
 
 module _ (m old : List ℕ) (t : Bool) where
-  pub unasked : {r : Prepared} → t ≡ false → r ≡ Ready (count m) (mask_length m) (Masks.route m) → Answered (preparing m unstated t old) r old
+  pub unasked : {r : Result Ready Refused} → t ≡ false → r ≡ ready_with (count m) (mask_length m) (Masks.route m) → Answered (preparing m None t old) r old
   unfolding list_short when prepared_at after stores over
   unasked e q = rw e (record { answered = q; listed = refl })
 
-  is-short : t ≡ true → length old < length (entries m) → list_short (preparing m unstated t old) ≡ true
+  is-short : t ≡ true → length old < length (entries m) → list_short (preparing m None t old) ≡ true
   unfolding list_short
   is-short e l = rw e (lt-ltb _ _ l)
 
-  is-long : t ≡ true → length (entries m) ≤ length old → list_short (preparing m unstated t old) ≡ false
+  is-long : t ≡ true → length (entries m) ≤ length old → list_short (preparing m None t old) ≡ false
   unfolding list_short
   is-long e l = rw e (le-ltb _ _ l)
 
-  pub short : t ≡ true → length old < length (entries m) → Answered (preparing m unstated t old) (Refused 12 Journal) old
-  unfolding when prepared_at after
+  pub short : t ≡ true → length old < length (entries m) → Answered (preparing m None t old) (refused_for Listing Journal) old
+  unfolding when prepared_at after reason_of
   short e l = record { answered = rw (is-short e l); listed = rw (is-short e l) }
 
-  pub filled : {r : Prepared} {new : List ℕ} {n : ℕ} → t ≡ true → length (entries m) ≤ length old → Wrote old 0 (entries m) new n → r ≡ Ready (count m) (mask_length m) (Masks.route m)
-      → Answered (preparing m unstated t old) r new
+  pub filled : {r : Result Ready Refused} {new : List ℕ} {n : ℕ} → t ≡ true → length (entries m) ≤ length old → Wrote old 0 (entries m) new n → r ≡ ready_with (count m) (mask_length m) (Masks.route m)
+      → Answered (preparing m None t old) r new
   unfolding when prepared_at after stores
   filled e l w q = record { answered = rw (is-long e l) q; listed = rw (is-long e l, e) (wrote-front w l) }
 
 -- ---- the whole answer
 
-module _ (m old : List ℕ) (t : Bool) (st : Stated) where
+module _ (m old : List ℕ) (t : Bool) (st : Option ℕ) where
   -- the stated count plays no part in 12, in the answer and in the list
-  short-same : list_short (preparing m st t old) ≡ list_short (preparing m unstated t old)
+  short-same : list_short (preparing m st t old) ≡ list_short (preparing m None t old)
   unfolding list_short
   short-same = refl
 
-  answer-same : (f : Refusal Pack) → prepared_at f (preparing m st t old) ≡ prepared_at f (preparing m unstated t old)
+  answer-same : (f : Refusal Pack) → prepared_at f (preparing m st t old) ≡ prepared_at f (preparing m None t old)
   unfolding prepared_at
   answer-same unrefused = refl
   answer-same (refused_by n p) = refl
 
-  stores_same : stores (preparing m st t old) ≡ stores (preparing m unstated t old)
+  stores_same : stores (preparing m st t old) ≡ stores (preparing m None t old)
   unfolding stores
   stores_same = refl
 
-  pub listed : {r : Prepared} {new : List ℕ} → mask_verdict m ≡ 0 → wrong_count st (count m) ≡ false → Answered (preparing m unstated t old) r new → Prepares (preparing m st t old) r new
+  pub listed : {r : Result Ready Refused} {new : List ℕ} → mask_verdict m ≡ 0 → wrong_count st (count m) ≡ false → Answered (preparing m None t old) r new → Prepares (preparing m st t old) r new
   unfolding prepared prepared_list mask_refusal of_verdict when ◌then◌
   listed v e a = record { answered = rw (v, e, short-same, answer-same) a.answered; listed = rw (v, e, short-same, stores_same) a.listed }
 
-  pub miscounted : mask_verdict m ≡ 0 → wrong_count st (count m) ≡ true → Prepares (preparing m st t old) (Refused 11 Mask) old
-  unfolding prepared prepared_list mask_refusal of_verdict when ◌then◌ prepared_at after
+  pub miscounted : mask_verdict m ≡ 0 → wrong_count st (count m) ≡ true → Prepares (preparing m st t old) (refused_for Count Mask) old
+  unfolding prepared prepared_list mask_refusal of_verdict when ◌then◌ prepared_at after reason_of
   miscounted v e = record { answered = rw (v, e); listed = rw (v, e) }
 
-  pub unaccepted : (n : ℕ) → n ≡ mask_verdict m → 0 < n → Prepares (preparing m st t old) (Refused n Mask) old
-  unfolding prepared prepared_list mask_refusal of_verdict ◌then◌ prepared_at after
-  unaccepted zero v h = absurd (omega arith)
-  unaccepted (suc n) v h = record { answered = rw (← v); listed = rw (← v) }
+  pub unaccepted : {f : Refused} → Err f ≡ own_answer Mask (mask_verdict m) → Prepares (preparing m st t old) (Err f) old
+  unfolding prepared prepared_list mask_refusal ◌then◌ prepared_at after
+  unaccepted e = let own = own_answer-err _ e in record { answered = rw (own.0, own.1); listed = rw own.0 }
 
 -- ---- the slip is that of a whole call, whose journal is accepted and not too short
 

@@ -12,16 +12,12 @@ pub fn read_full<R: Read>(input: &mut R, into: &mut [u8]) -> usize
     ensures within { result ≤ length into.new }
     ensures bytes { Consumes (R.remaining input.old) (R.remaining input.new) (take result into.new) }
 {
-    let mut done: usize = 0;
+    let mut done = 0;
     while done < into.len() {
-        let more = match input.read(&mut into[done..]) {
-            Ok(n) => n,
-            Err(_) => 0,
-        };
-        if more == 0 {
-            break;
+        match input.read(&mut into[done..]) {
+            Ok(0) | Err(_) => break,
+            Ok(more) => done += more,
         }
-        done += more;
     }
     done
 }

@@ -1,4 +1,2 @@
--- Laws of the printed line, and its examples.
-pub mod Decimal
-pub mod Line
+-- Examples of the printed line.
 pub mod Cases

@@ -1,109 +1,23 @@
 // The line that the program `extract` prints of an answer.
 #![tactic(auto)]
 
-ghost use Rattle.std.specs.Prelude.{◌+◌, ◌≤◌, ◌++◌, length};
-ghost use Rattle.format.specs.Put.{Wrote};
-ghost use Rattle.report.specs.Report.{decimal, most_digits, route_name, pack_name, longest_name, line_of, line_room};
+ghost use Rattle.std.specs.Prelude.{Some};
+ghost use Rattle.report.specs.Report.{line_of};
 
-use format::{Answer, Pack, Route};
+use format::Answer;
+use std::fmt;
 
-// A text at a place.
-fn put_text(out: &mut [u8], at: usize, text: &[u8]) -> usize
-    requires { at + length text.now ≤ length out.old }
-    ensures { Wrote out.old at text.now out.new result }
-{
-    copies::copy(out, at, text, 0, text.len())
-}
+// An answer as its line, with the newline at its end.
+#[derive(Clone, Copy, Debug, PartialEq, Eq)]
+pub struct Line(pub Answer);
 
-// A number in decimal at a place: the digits before the last, if there are any, and the last.
-fn put_decimal(out: &mut [u8], at: usize, x: u64) -> usize
-    requires { at + length (decimal x) ≤ length out.old }
-    ensures { Wrote out.old at (decimal x) out.new result }
-{
-    if x < 10 {
-        out[at] = b'0' + x as u8;
-        return at + 1;
-    }
-    let last = put_decimal(out, at, x / 10);
-    out[last] = b'0' + (x % 10) as u8;
-    last + 1
-}
+impl fmt::Display for Line {
+    ghost output = { λ line. Some (line_of line.0) };
 
-// A text and a number.
-fn put_count(out: &mut [u8], at: usize, text: &[u8], x: u64) -> usize
-    requires { at + length text.now + most_digits ≤ length out.old }
-    ensures wrote { Wrote out.old at (text.now ++ decimal x) out.new result }
-    ensures upper_bound { result ≤ at + length text.now + most_digits }
-{
-    let next = put_text(out, at, text);
-    put_decimal(out, next, x)
-}
-
-// A route's name.
-fn put_route(out: &mut [u8], at: usize, route: Route) -> usize
-    requires { at + longest_name ≤ length out.old }
-    ensures wrote { Wrote out.old at (route_name route) out.new result }
-    ensures upper_bound { result ≤ at + longest_name }
-{
-    match route {
-        Route::None => put_text(out, at, b"none"),
-        Route::All => put_text(out, at, b"all"),
-        Route::Slices => put_text(out, at, b"slices"),
-        Route::Indices => put_text(out, at, b"indices"),
-    }
-}
-
-// A pack's name.
-fn put_pack(out: &mut [u8], at: usize, pack: Pack) -> usize
-    requires { at + longest_name ≤ length out.old }
-    ensures wrote { Wrote out.old at (pack_name pack) out.new result }
-    ensures upper_bound { result ≤ at + longest_name }
-{
-    match pack {
-        Pack::Mask => put_text(out, at, b"mask"),
-        Pack::Journal => put_text(out, at, b"journal"),
-    }
-}
-
-// The line of a call that was not refused.
-fn put_done(out: &mut [u8], kept: u64, slots: u64, route: Route, bytes: u64) -> usize
-    requires { line_room ≤ length out.old }
-    ensures wrote { Wrote out.old 0 (line_of (Answer.Done kept slots route bytes)) out.new result }
-    ensures upper_bound { result ≤ line_room }
-{
-    let next = put_count(out, 0, b"rows ", kept);
-    let next = put_count(out, next, b" of ", slots);
-    let next = put_text(out, next, b" route ");
-    let next = put_route(out, next, route);
-    let next = put_count(out, next, b" bytes ", bytes);
-    put_text(out, next, b"\n")
-}
-
-// The line of a refusal.
-fn put_refused(out: &mut [u8], number: u64, pack: Pack) -> usize
-    requires { line_room ≤ length out.old }
-    ensures wrote { Wrote out.old 0 (line_of (Answer.Refused number pack)) out.new result }
-    ensures upper_bound { result ≤ line_room }
-{
-    let next = put_count(out, 0, b"refused ", number);
-    let next = put_text(out, next, b" ");
-    let end = put_pack(out, next, pack);
-    put_text(out, end, b"\n")
-}
-
-// The line of an answer, at the front of `out`; gives its length.
-pub fn line_of(answer: Answer, out: &mut [u8]) -> usize
-    requires { line_room ≤ length out.old }
-    ensures wrote { Wrote out.old 0 (line_of answer) out.new result }
-    ensures upper_bound { result ≤ line_room }
-{
-    match answer {
-        Answer::Done {
-            kept,
-            slots,
-            route,
-            bytes,
-        } => put_done(out, kept, slots, route, bytes),
-        Answer::Refused { number, pack } => put_refused(out, number, pack),
+    fn fmt<W: fmt::Write>(&self, f: &mut fmt::Formatter<W>) -> fmt::Result {
+        match self.0 {
+            Ok(done) => writeln!(f, "{done}"),
+            Err(refused) => writeln!(f, "{refused}"),
+        }
     }
 }

@@ -12,7 +12,7 @@ ghost use Rattle.nesting.specs.Rows.{hands_on, picks_of, edge, AtRuns};
 use list_marks::standing;
 use nesting::edges::end_edge;
 use nesting::table::least;
-use slots::Bits;
+use slots::{Bits, Source};
 
 // At most eight runs as a byte, the first run lowest, and where the run after them starts.
 #[derive(Clone, Copy)]
@@ -23,8 +23,7 @@ struct Gathered {
 
 // Of at most eight runs of a runs node, the first of which starts at `start`: which have a picked slot.
 fn runs_byte(
-    source: &[u8],
-    bits: Bits,
+    source: Source,
     journal: &[u8],
     table: &[u32; 640],
     i: usize,
@@ -32,27 +31,18 @@ fn runs_byte(
     to: usize,
     start: usize,
 ) -> Gathered
-    requires lies { Lies source.now bits }
     requires at_runs { AtRuns journal.now table.now i }
-    requires from_le_to { (from ≤ to) × (to ≤ from + 8) × (to ≤ rows journal.now (suc i)) × (start ≡ edge journal.now i bits.len from) }
-    ensures byte_value { result.byte ≡ word_from (hands_on journal.now i (picks_of source.now bits)) (to - from) from }
-    ensures next_value { result.next ≡ edge journal.now i bits.len to }
+    requires from_le_to { (from ≤ to) × (to ≤ from + 8) × (to ≤ rows journal.now (suc i)) × (start ≡ edge journal.now i source.bits.len from) }
+    ensures byte_value { result.byte ≡ word_from (hands_on journal.now i (picks_of source.entry.bytes.now source.entry.bits)) (to - from) from }
+    ensures next_value { result.next ≡ edge journal.now i source.entry.bits.len to }
 {
-    let len = bits.len;
+    let len = source.bits.len;
     let mut x: u8 = 0;
     let mut lo = start;
-    let mut r = from;
-    while r < to {
+    for r in from..to {
         let hi = end_edge(journal, table, i, r, len);
-        // A run that is one word of the source is asked without a call.
-        let some = if (hi - lo <= 57) & (lo + 64 <= len) {
-            scan::any_short(source, bits, lo, hi)
-        } else {
-            scan::any_within(source, bits, lo, hi)
-        };
-        x += (some as u8) << (r - from);
+        x += u8::from(scan::any_within(source, lo, hi)) << (r - from);
         lo = hi;
-        r += 1;
     }
     Gathered { byte: x, next: lo }
 }
@@ -80,8 +70,11 @@ pub fn fill_runs(
     let mut r: usize = 0;
     while r < len {
         let next = least(len, r + 8);
-        let source = standing(mask, &scratch[..at], in_mask);
-        let g = runs_byte(source, bits, journal, table, i, r, next, lo);
+        let source = Source {
+            bytes: standing(mask, &scratch[..at], in_mask),
+            bits,
+        };
+        let g = runs_byte(source, journal, table, i, r, next, lo);
         scratch[place] = g.byte;
         lo = g.next;
         place += 1;

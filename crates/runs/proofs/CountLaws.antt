@@ -18,13 +18,11 @@ module _ (p : ℕ → Bool) where
     pub ones-few : ones x ≤ m
     ones-few = omega (arith, ones-picks, count-le p m i)
 
-    -- n counts the slots before them
-    pub count-more : (lo hi n : ℕ) → lo ≤ i → hi ≡ i + m → n ≡ length (picks_from p (i - lo) lo) → n + ones x ≡ length (picks_from p (hi - lo) lo)
-    count-more lo hi n l h en =
-        let k : hi - lo ≡ i - lo + m = omega arith in
-        let at : lo + (i - lo) ≡ i = omega arith in
-        let cat = rw at at (count-cat p (i - lo) m lo) in
-        rw k (omega (arith, ones-picks, cat))
+    -- n counts the k slots before them
+    pub count-more : (lo k l n : ℕ) → i ≡ lo + k → l ≡ k + m → n ≡ length (picks_from p k lo) → n + ones x ≡ length (picks_from p l lo)
+    count-more lo k l n at to en =
+        let cat = rw (← at) at (count-cat p k m lo) in
+        rw to (omega (arith, ones-picks, cat))
 
 -- slots that fail, and slots that pass
 pub count_none : (n i : ℕ) → length (picks_from (λ j. false) n i) ≡ 0

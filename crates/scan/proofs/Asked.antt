@@ -1,40 +1,49 @@
 -- What a scan answers, by the facts of the slots: the first run, and whether any slot of a range passes. Over any test p. Assumes nothing.
-use Rattle.std.proofs.Common.{◌≡◌, ℕ, ◌+◌, ◌-◌, ◌<◌, ◌≤◌, Bool, true, false, not, eqb, ltb, List, [], ◌∷◌, sym, refl, ap, ◌∙◌, ⊎_elim, eq-zero-or-pos, arith, le-ltb, lt-ltb, eq-eqb, ne_eqb}
+use Rattle.std.proofs.Common.{◌≡◌, ℕ, ◌+◌, ◌-◌, ◌<◌, ◌≤◌, Bool, true, false, not, eqb, List, [], ◌∷◌, sym, refl, ap, ◌∙◌, ⊎_elim, eq-zero-or-pos, arith, ltb, le-ltb, lt-ltb, eq-eqb, ne_eqb}
+use Rattle.std.specs.Prelude.{Option, Some, None, is_some}
+use Rattle.std.specs.Bool.{then_some}
 use mathlib.Core.Logic.{dite}
 use native.Mathlib.Decide.{dec_lt}
-use Rattle.format.specs.Slots.{word_from, runs_from, All, Sought, FirstRun}
+use Rattle.std.proofs.lemmas.Option.{none-some, same_Some}
+use Rattle.format.specs.Slots.{word_from, runs_from, All, FirstRun}
 use Rattle.format.proofs.Laws.{any_found, any_none, none_any}
 use Rattle.format.proofs.SlotLaws.{all_join, all-less, runs-next, runs_none, Next, runs-first}
 use Rattle.format.proofs.WordLaws.{from-none, from_zero}
-use Rattle.scan.specs.declared.Run.TheVariants.{Span, End}
-use Rattle.scan.specs.Asked.{any_in, first_run}
+use Rattle.scan.specs.Asked.{any_in, Picked, first_run}
 
 -- ---- the first run
 
 module _ {p : ℕ → Bool} {from len : ℕ} where
-  pub run-first : {a e : ℕ} → FirstRun p from len a e → Span a e ≡ first_run (runs_from p (len - from) from)
+  pub run-first : {a e : ℕ} → FirstRun p from len a e → Some (a, e) ≡ first_run (runs_from p (len - from) from)
   run-first f = ap first_run (sym (runs-next f))
 
-  pub end-first : All p false from len → End ≡ first_run (runs_from p (len - from) from)
+  pub end-first : All p false from len → None ≡ first_run (runs_from p (len - from) from)
   end-first all = ap first_run (sym (runs_none all))
 
+  -- as a scan gives it: none where it found no slot
+  pub scanned-first : (a e : ℕ) → (a < e → FirstRun p from len a e) → (e ≤ a → All p false from len) → then_some (ltb a e) (a, e) ≡ first_run (runs_from p (len - from) from)
+  scanned-first a e run none =
+      dite (dec_lt a e)
+      (λ l. rw (lt-ltb a e l) (run-first (run l)))
+      (λ n. rw (le-ltb a e (omega arith)) (end-first (none (omega arith))))
+
   -- and back
-  pub first_run-is : {a e : ℕ} → Span a e ≡ first_run (runs_from p (len - from) from) → FirstRun p from len a e
+  pub first_run-is : {a e : ℕ} → Some (a, e) ≡ first_run (runs_from p (len - from) from) → FirstRun p from len a e
   first_run-is {a} {e} q = go (runs_from p (len - from) from) q (runs-first p (len - from) from len refl)
     where
-      go : (rs : List (ℕ × ℕ)) → Span a e ≡ first_run rs → Next p from len rs → FirstRun p from len a e
-      go [] q f = let z : ◌≡◌ {A = ℕ} 0 1 = cc in absurd (omega arith)
+      go : (rs : List (ℕ × ℕ)) → Some (a, e) ≡ first_run rs → Next p from len rs → FirstRun p from len a e
+      go [] q f = absurd (none-some _ (sym q))
       go (r ∷ rs) q f =
-          let s : r.0 ≡ a = cc in
-          let t : r.1 ≡ e = cc in
+          let s : r.0 ≡ a = ap (λ (x : ℕ × ℕ). x.0) (sym (same_Some _ _ q)) in
+          let t : r.1 ≡ e = ap (λ (x : ℕ × ℕ). x.1) (sym (same_Some _ _ q)) in
           rw (s, t) at f
 
-  pub first-end : End ≡ first_run (runs_from p (len - from) from) → All p false from len
+  pub first-end : None ≡ first_run (runs_from p (len - from) from) → All p false from len
   first-end q = go (runs_from p (len - from) from) q (runs-first p (len - from) from len refl)
     where
-      go : (rs : List (ℕ × ℕ)) → End ≡ first_run rs → Next p from len rs → All p false from len
+      go : (rs : List (ℕ × ℕ)) → None ≡ first_run rs → Next p from len rs → All p false from len
       go [] q f = f
-      go (r ∷ rs) q f = let z : ◌≡◌ {A = ℕ} 0 1 = cc in absurd (omega arith)
+      go (r ∷ rs) q f = absurd (none-some _ q)
 
 -- ---- any slot of [lo, hi)
 
@@ -47,12 +56,10 @@ module _ (p : ℕ → Bool) {lo hi : ℕ} where
       let e : lo + (r - lo) ≡ r = omega arith in
       any_found _ (hi - lo) (r - lo) (omega arith) (rw e q)
 
-  -- a search up to `end`, from where on every slot below hi fails
-  pub any-sought : {end r : ℕ} → Sought p lo end true r → end ≤ hi → All p false end hi → ltb r end ≡ any_in p lo hi
-  any-sought {end} {r} f h past =
-      dite (dec_lt r end)
-      (λ l. lt-ltb r end l ∙ sym (any-one-in r f.low (omega arith) (f.here l)))
-      (λ n. le-ltb r end (omega arith) ∙ sym (any-none-in (all_join (all-less (omega arith) f.passed) past)))
+-- a search up to `end`, from where on every slot below hi fails
+pub any-found : (p : ℕ → Bool) (lo hi end : ℕ) (r : Option ℕ) → Picked p lo end r → end ≤ hi → All p false end hi → is_some r ≡ any_in p lo hi
+any-found p lo hi end None none h past = sym (any-none-in p (all_join none past))
+any-found p lo hi end (Some k) f h past = sym (any-one-in p k f.0 (omega (arith, f.1)) f.3)
 
 -- ---- by the word of the slots of [lo, hi)
 

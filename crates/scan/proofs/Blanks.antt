@@ -1,10 +1,10 @@
 -- Words of zeros, passed over four at a time: no value bit is set in the 33 bytes that hold theirs, read as five words. Assumes nothing.
-use Rattle.std.proofs.Common.{◌≡◌, ℕ, ◌+◌, ◌*◌, ◌/◌, ◌<◌, ◌≤◌, Bool, false, List, get_or, sym, ◌∙◌, arith}
+use Rattle.std.proofs.Common.{◌≡◌, ℕ, ◌+◌, ◌*◌, ◌/◌, ◌<◌, ◌≤◌, Bool, false, List, sym, ◌∙◌, arith}
 use lib.Bits.{bit_or, or_add_and, and_le_l, and_le_r}
-use Rattle.format.specs.Bytes.{le, bit_in}
-use Rattle.format.specs.Slots.{All}
+use Rattle.format.specs.Bytes.{bit_in}
+use Rattle.format.specs.Slots.{word_from, All}
 use Rattle.format.proofs.SlotLaws.{all_none, all_join}
-use Rattle.format.proofs.WordLaws.{from_zero, from_le}
+use Rattle.format.proofs.WordLaws.{from_zero}
 use Rattle.slots.specs.declared.Bits.{Bits}
 use Rattle.slots.specs.Source.{slot_of}
 use Rattle.slots.proofs.Reading.{slot_is, set-not}
@@ -16,14 +16,17 @@ or-none x y e = (omega (arith, or_add_and x y, and_le_r x y), omega (arith, or_a
 
 -- ---- the bits that are read
 
-module _ (s : List ℕ) (small : (i : ℕ) → get_or s i 0 < 256) where
+module _ (s : List ℕ) where
+  abbrev at : ℕ → ℕ
+  at j = word_from (bit_in s) 64 (8 * j)
+
   -- a word from byte j on, and bits of it
-  word_blank : (j i e : ℕ) {x : ℕ} → x ≡ le 8 s j → x ≡ 0 → 8 * j ≤ i → e ≤ 8 * j + 64 → All (bit_in s) false i e
+  word_blank : (j i e : ℕ) {x : ℕ} → x ≡ at j → x ≡ 0 → 8 * j ≤ i → e ≤ 8 * j + 64 → All (bit_in s) false i e
   word_blank j i e ex z l h =
-      let all = from_zero (bit_in s) 64 (8 * j) (sym (from_le s small 8 j) ∙ sym ex ∙ z) in
+      let all = from_zero (bit_in s) 64 (8 * j) (sym ex ∙ z) in
       record { at = λ k a b. all.at k (omega arith) (omega arith) }
 
-  pub bytes-blank : (j : ℕ) {x₀ x₁ x₂ x₃ x₄ : ℕ} → x₀ ≡ le 8 s j → x₁ ≡ le 8 s (j + 8) → x₂ ≡ le 8 s (j + 16) → x₃ ≡ le 8 s (j + 24) → x₄ ≡ le 8 s (j + 25)
+  pub bytes-blank : (j : ℕ) {x₀ x₁ x₂ x₃ x₄ : ℕ} → x₀ ≡ at j → x₁ ≡ at (j + 8) → x₂ ≡ at (j + 16) → x₃ ≡ at (j + 24) → x₄ ≡ at (j + 25)
       → bit_or (bit_or (bit_or x₀ x₁) (bit_or x₂ x₃)) x₄ ≡ 0 → All (bit_in s) false (8 * j) (8 * j + 264)
   bytes-blank j {x₀} {x₁} {x₂} {x₃} {x₄} e₀ e₁ e₂ e₃ e₄ z =
       let (most, last) = or-none (bit_or (bit_or x₀ x₁) (bit_or x₂ x₃)) x₄ z in

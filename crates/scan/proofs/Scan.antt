@@ -1,10 +1,14 @@
 -- The scan word by word: a word's set bits are taken lowest first, each cleared by `x & (x - 1)`. Over any test p. Assumes nothing.
-use Rattle.std.proofs.Common.{◌≡◌, ℕ, ◌+◌, ◌-◌, ◌*◌, ◌/◌, ◌<◌, ◌≤◌, Bool, true, false, leb, sym, refl, ◌∙◌, ⊎_elim, eq-zero-or-pos, arith, leb-true}
+use Rattle.std.proofs.Common.{◌≡◌, ℕ, ◌+◌, ◌-◌, ◌*◌, ◌/◌, ◌<◌, ◌≤◌, Bool, true, false, leb, sym, refl, ◌∙◌, ⊎_elim, eq-zero-or-pos, arith, leb-true, ltb, le-ltb, lt-ltb}
+use Rattle.std.specs.Prelude.{None}
+use Rattle.std.specs.Bool.{then_some}
+use mathlib.Core.Logic.{dite}
+use native.Mathlib.Decide.{dec_lt}
 use mathlib.Core.Bool.{and-eq-true_iff}
 use lib.Bits.{bit_and}
 use lib.Count.{count_trailing_zeros}
-use Rattle.format.specs.Slots.{word_from, after, All, Sought, FirstRun}
-use Rattle.scan.specs.Asked.{Ones, Blank}
+use Rattle.format.specs.Slots.{word_from, after, All, FirstRun}
+use Rattle.scan.specs.Asked.{Ones, Blank, Picked}
 use Rattle.format.proofs.SlotLaws.{all_none, all_one, all_join, all_more, all-less, after_is, after-after}
 use Rattle.format.proofs.WordLaws.{from-ext, from_zero, from_all, Lowest, lowest_set}
 
@@ -181,12 +185,12 @@ ended-run {e = e} f inside h =
 
 module _ {p : ℕ → Bool} {from w : ℕ} (end : ℕ) where
   -- the words are over
-  pub sought-none : Scanned p from w from from → from ≤ end → end ≤ 64 * w → Sought p from end true end
-  sought-none f l h = record { low = l; high = omega arith; passed = all-less h f.gap; here = λ k. absurd (omega arith) }
+  pub picked-none : Scanned p from w from from → end ≤ 64 * w → Picked p from end None
+  picked-none f h = all-less h f.gap
 
-  module _ {x k : ℕ} (h : Hit p w from x k) where
-    pub sought-here : k < end → Sought p from end true k
-    sought-here l = record { low = h.beyond; high = omega arith; passed = h.skipped; here = λ _. h.passes }
-
-    pub sought-past : from ≤ end → end ≤ k → Sought p from end true end
-    sought-past l m = record { low = l; high = omega arith; passed = all-less m h.skipped; here = λ k. absurd (omega arith) }
+  -- or end with a word that has one
+  pub picked-then : {x k : ℕ} → Hit p w from x k → Picked p from end (then_some (ltb k end) k)
+  picked-then {x} {k} h =
+      dite (dec_lt k end)
+      (λ l. rw (lt-ltb k end l) (h.beyond, l, h.skipped, h.passes))
+      (λ n. rw (le-ltb k end (omega arith)) (all-less (omega arith) h.skipped))

@@ -15,7 +15,7 @@ ghost use Rattle.select.specs.Routed.{Routed, Selected, Few};
 
 use format::Route;
 use predicate::{Held, Selection, selection_of};
-use slots::Bits;
+use slots::{Bits, Source};
 use stored_list::store_list;
 use write::write_extract;
 
@@ -35,7 +35,8 @@ fn select(mask: &[u8], bits: Bits, route: Route, asked: bool, list: &mut [u32]) 
     ensures { Selected mask.now bits asked list.old list.new result }
 {
     if asked {
-        let n = store_list(mask, bits, route, list);
+        let source = Source { bytes: mask, bits };
+        let n = store_list(source, route, list);
         return selection_of(route, true, bits.len, n);
     }
     selection_of(route, false, bits.len, 0)
@@ -84,7 +85,8 @@ fn write_few(
     ensures { (output.new ≡ extract journal.now (picks_of mask.now bits)) × (scratch.new ≡ replicate (length scratch.old) 0) }
 {
     let mut list = [0u32; FEW_ROWS];
-    let n = store_list(mask, bits, Route::Indices, &mut list[..]);
+    let source = Source { bytes: mask, bits };
+    let n = store_list(source, Route::Indices, &mut list[..]);
     fill_and_write(
         mask,
         bits,

@@ -1,3 +1,2 @@
--- Laws of a step and of what a caller learns of it.
-pub mod StepLaws
-pub mod Reading
+-- Laws of an iterator over runs.
+pub mod Yields

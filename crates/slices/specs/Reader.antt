@@ -1,38 +1,28 @@
--- What a reader of runs answers, and where it stands afterwards. Assumes nothing.
-use Rattle.std.specs.Prelude.{ℕ, ◌-◌, List}
-use Rattle.std.specs.Borrow.{Bor}
+-- What an iterator over runs gives, and where it stands afterwards. Assumes nothing.
+use Rattle.std.specs.Prelude.{◌≡◌, ℕ, ◌-◌, List, Option}
+use Rattle.std.specs.Option.{option_map_or}
 use Rattle.format.specs.Slots.{runs_from}
-use Rattle.slots.specs.Source.{slot_of, Lies}
+use Rattle.slots.specs.declared.Source.{Source}
+use Rattle.slots.specs.Slot.{slot_in}
 use Rattle.scan.specs.Asked.{first_run}
-use Rattle.slots.specs.declared.Bits.{Bits}
-use Rattle.scan.specs.declared.Run.{Run}
-use Rattle.scan.specs.declared.Run.TheVariants.{Span, End}
-use Rattle.slices.specs.declared.Step.{Step}
 use Rattle.slices.specs.declared.SlicesIterator.{SlicesIterator}
 
--- the first maximal run at or after `from`
-abbrev pub run_from : List ℕ → Bits → ℕ → Run
-run_from s b from = first_run (runs_from (slot_of s b) (b.len - from) from)
+-- one at the first slot
+abbrev pub begun : Source → SlicesIterator
+begun s = record { source = s; at = 0 }
 
--- the slot behind a run, or the end
-abbrev pub behind : Run → ℕ → ℕ
-behind (Span a e) len = e
-behind End len = len
+-- the runs that are left
+abbrev pub runs_left : SlicesIterator → List (ℕ × ℕ)
+runs_left i = runs_from (slot_in i.source) (i.source.bits.len - i.at) i.at
 
-abbrev pub step_of : List ℕ → Bits → ℕ → Step
-step_of s b from = record { run = run_from s b from; at = behind (run_from s b from) b.len }
+-- the first of them, which it gives next
+abbrev pub run_at : SlicesIterator → Option (ℕ × ℕ)
+run_at i = first_run (runs_left i)
 
--- a reader at the first slot
-abbrev pub begun : Bor (List ℕ) → Bits → SlicesIterator
-begun s b = record { mask = s; bits = b; at = 0 }
-
--- a reader's bits lie in its bytes
-abbrev pub Stands : SlicesIterator → Type 0
-Stands i = Lies i.mask.now i.bits
-
--- what it reads next, and where it then stands: same bytes, same end, the place moved
-abbrev pub run_at : SlicesIterator → Run
-run_at i = run_from i.mask.now i.bits i.at
-
+-- where it then stands: same source, behind the run that it gave, or at the end
 abbrev pub advanced : SlicesIterator → SlicesIterator
-advanced i = record { mask = i.mask; bits = i.bits; at = behind (run_at i) i.bits.len }
+advanced i = record { source = i.source; at = option_map_or (λ r. r.1) (run_at i) i.source.bits.len }
+
+-- what a call of `next` gives, and where it leaves the iterator
+abbrev pub GivesRun : SlicesIterator → Option (ℕ × ℕ) → SlicesIterator → Type 0
+GivesRun i r t = (r ≡ run_at i) × (t ≡ advanced i)

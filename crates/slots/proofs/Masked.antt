@@ -2,6 +2,9 @@
 use Prim.Native.Nat.{ℕ, ◌+◌, ◌*◌, ◌≤◌, ◌<◌}
 use mathlib.Core.Bool.{Bool, true, false, not, ◌&&◌, ◌||◌}
 use mathlib.Core.List.{List}
+use Rattle.std.specs.Prelude.{cond, Some, None}
+use Rattle.std.specs.Option.{option_map_or}
+use Rattle.std.proofs.lemmas.Option.{none-some, same_Some}
 use mathlib.Core.Path.{◌≡◌, refl, sym, ap, ◌∙◌}
 use native.Mathlib.Omega.{arith}
 use borrow.Author.Tests.{ltb-false, eqb-true, not-true, not-false}
@@ -22,9 +25,14 @@ use Rattle.slots.proofs.Reading.{slot_is}
 
 -- ---- conditions that came out false
 
-not-not : (a : Bool) → not (not a) ≡ a
-not-not true = refl
-not-not false = refl
+-- a place where there is a bitmap, and what is asked of it
+some-place : {x at : ℕ} (none : Bool) → cond none None (Some x) ≡ Some at → (none ≡ false) × (x ≡ at)
+some-place true e = absurd (none-some _ e)
+some-place false e = (refl, same_Some _ _ e)
+
+unless-none : (p : ℕ → Bool) (none : Bool) (x : ℕ) → option_map_or p (cond none None (Some x)) true ≡ (none || p x)
+unless-none p true x = refl
+unless-none p false x = refl
 
 -- ---- an accepted pack
 
@@ -79,7 +87,7 @@ module _ (b : List ℕ) (ok : Accepted b) where
           record {
             small = omega arith;
             values = omega (arith, bits_in);
-            validity = λ h. omega (arith, bitmap-in (not-true _ h));
+            validity = λ at e. let h = some-place (has_no_bitmap b i) e in omega (arith, bitmap-in h.0, h.1);
           }
 
 -- ---- a mask: its slots are those that it picks
@@ -87,7 +95,7 @@ module _ (b : List ℕ) (ok : Accepted b) where
 module _ (m : List ℕ) where
   pub slot-picked : (j : ℕ) → j < mask_length m → slot_of m (bits_of m 0) j ≡ picked m j
   unfolding mask_length picked both_set valid
-  slot-picked j h = slot_is m (bits_of m 0) j h ∙ rw not-not
+  slot-picked j h = slot_is m (bits_of m 0) j h ∙ rw unless-none
 
   pub mask-picks : picks_from (slot_of m (bits_of m 0)) (rows m 0) 0 ≡ picks m
   unfolding mask_length picks

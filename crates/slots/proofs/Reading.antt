@@ -1,8 +1,11 @@
 -- A source's slots by the bits that are read, and its words. Assumes nothing.
-use Prim.Native.Nat.{ℕ, ◌+◌, ◌-◌, ◌*◌, ◌/◌, ◌%◌, ◌^◌, ◌≤◌, ◌<◌}
-use mathlib.Core.Bool.{Bool, true, false, and-true}
+use Prim.Native.Nat.{ℕ, ◌+◌, ◌-◌, ◌*◌, ◌/◌, ◌%◌, ◌^◌, ◌≤◌, ◌<◌, min}
+use Rattle.std.specs.Prelude.{Option, Some, None, MatchOption}
+use mathlib.Core.Bool.{Bool, true, false, ◌&&◌, and-true}
 use mathlib.Core.List.{List}
-use mathlib.Core.Path.{◌≡◌, sym, ap, ◌∙◌}
+use mathlib.Core.Logic.{dite}
+use native.Mathlib.Decide.{dec_le}
+use mathlib.Core.Path.{◌≡◌, refl, sym, ap, ◌∙◌}
 use native.Mathlib.Nat.{add_assoc}
 use native.Mathlib.Omega.{arith}
 use lib.Bits.{bit_and}
@@ -47,13 +50,13 @@ module _ (s : List ℕ) (b : Bits) where
 
   -- ---- slot i by its bits
 
-  pub set-plain : (i : ℕ) → b.has_validity ≡ false → both_set s b i ≡ bit_in s (8 * b.values_at + (b.skip + i))
+  pub set-plain : (i : ℕ) → b.validity ≡ None → both_set s b i ≡ bit_in s (8 * b.values_at + (b.skip + i))
   unfolding both_set bit_at
   set-plain i e = rw (e, and-true)
 
-  pub set-valid : (i : ℕ) → b.has_validity ≡ true → bit_in s (8 * b.values_at + (b.skip + i)) ≡ true → both_set s b i ≡ bit_in s (8 * b.validity_at + (b.skip + i))
+  pub set-valid : {at : ℕ} (i : ℕ) → b.validity ≡ Some at → both_set s b i ≡ (bit_in s (8 * b.values_at + (b.skip + i)) && bit_in s (8 * at + (b.skip + i)))
   unfolding both_set bit_at
-  set-valid i e f = rw (f, e)
+  set-valid i e = rw e
 
   pub set-not : (i : ℕ) → bit_in s (8 * b.values_at + (b.skip + i)) ≡ false → both_set s b i ≡ false
   unfolding both_set bit_at
@@ -65,15 +68,24 @@ module _ (s : List ℕ) (b : Bits) where
   from-skip : (at i : ℕ) → 8 * at + (b.skip + i) ≡ 8 * at + b.skip + i
   from-skip at i = sym (add_assoc (8 * at) b.skip i)
 
-  pub word-plain : (n i : ℕ) → b.has_validity ≡ false → word_from (bit_in s) n (8 * b.values_at + (b.skip + i)) ≡ word_from (both_set s b) n i
+  pub word-plain : (n i : ℕ) → b.validity ≡ None → word_from (bit_in s) n (8 * b.values_at + (b.skip + i)) ≡ word_from (both_set s b) n i
   word-plain n i e =
       rw (from-skip, from-shift) (from-ext _ _ n i (λ j _ _. sym (set-plain j e ∙ ap (bit_in s) (from-skip b.values_at j))))
 
-  pub word-valid : (n i : ℕ) → b.has_validity ≡ true → bit_and (word_from (bit_in s) n (8 * b.values_at + (b.skip + i))) (word_from (bit_in s) n (8 * b.validity_at + (b.skip + i))) ≡ word_from (both_set s b) n i
-  unfolding both_set bit_at
-  word-valid n i e =
-      rw (from-skip b.values_at, from-skip b.validity_at, from-shift (bit_in s) (8 * b.values_at + b.skip), from-shift (bit_in s) (8 * b.validity_at + b.skip), from-and)
-      (from-ext _ _ n i (λ j _ _. rw (e, from-skip b.values_at, from-skip b.validity_at)))
+  pub word-valid : {at : ℕ} (n i : ℕ) → b.validity ≡ Some at → bit_and (word_from (bit_in s) n (8 * b.values_at + (b.skip + i))) (word_from (bit_in s) n (8 * at + (b.skip + i))) ≡ word_from (both_set s b) n i
+  word-valid {at} n i e =
+      rw (from-skip b.values_at, from-skip at, from-shift (bit_in s) (8 * b.values_at + b.skip), from-shift (bit_in s) (8 * at + b.skip), from-and)
+      (from-ext _ _ n i (λ j _ _. sym (rw (from-skip b.values_at, from-skip at) at (set-valid j e))))
+
+  -- by what is read of each bitmap
+  pub read-word : (n i : ℕ) {x r : ℕ} (Q : ℕ → Type 0) → x ≡ word_from (bit_in s) n (8 * b.values_at + (b.skip + i)) → MatchOption b.validity (r ≡ x) Q
+      → ((at : ℕ) → Q at → (y : ℕ) × (y ≡ word_from (bit_in s) n (8 * at + (b.skip + i))) × (r ≡ bit_and x y))
+      → r ≡ word_from (both_set s b) n i
+  read-word n i {x} {r} Q e m f = go b.validity refl m
+    where
+      go : (o : Option ℕ) → b.validity ≡ o → MatchOption o (r ≡ x) Q → r ≡ word_from (both_set s b) n i
+      go None v q = q ∙ e ∙ word-plain n i v
+      go (Some at) v q = let (y, f, g) = f at q in rw (g, e, f) (word-valid n i v)
 
   pub word-full : (n i : ℕ) → i + n ≤ b.len → word_from (both_set s b) n i ≡ word_from (slot_of s b) n i
   unfolding slot_of
@@ -82,3 +94,12 @@ module _ (s : List ℕ) (b : Bits) where
   pub word_cut : (n i : ℕ) → i ≤ b.len → b.len ≤ i + n → word_from (both_set s b) n i % 2 ^ (b.len - i) ≡ word_from (slot_of s b) n i
   unfolding slot_of
   word_cut n i h l = from_cut (both_set s b) b.len n i h l
+
+  -- the slots before the last are all that a word past it has
+  pub word-end : (n i : ℕ) → i ≤ b.len → n ≡ min (b.len - i) 64 → word_from (slot_of s b) n i ≡ word_from (slot_of s b) 64 i
+  word-end n i h e =
+      dite (dec_le b.len (i + 64))
+      (λ l.
+      let m : n ≡ b.len - i = omega arith in
+      rw m (sym (word-full (b.len - i) i (omega arith)) ∙ sym (first-slots (both_set s b) 64 (b.len - i) i (omega arith)) ∙ word_cut 64 i h l))
+      (λ l. let m : n ≡ 64 = omega arith in rw m)

@@ -1,3 +1,4 @@
 -- What the contracts of this crate cite.
 pub mod Source
+pub mod Slot
 pub mod Node

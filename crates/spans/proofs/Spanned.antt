@@ -10,7 +10,7 @@ use Rattle.format.specs.Bytes.{le}
 use Rattle.format.specs.Rows.{set_rows, Below}
 use Rattle.format.specs.Slots.{pick, picks_from, count_up}
 use Rattle.words.specs.Run.{LowestRun}
-use Rattle.words.proofs.Carry.{rows-off, run-below, rest_below}
+use Rattle.words.proofs.Carry.{run-below, rest_below}
 use Rattle.spans.specs.Spans.{offset_from, spans, Rises, Rising}
 
 pub spans-none : (o : ℕ → ℕ) (rs : List ℕ) → rs ≡ [] → spans o rs ≡ 0
@@ -49,16 +49,16 @@ module _ (o : ℕ → ℕ) (n : ℕ) (up : Rises o n) where
 
 -- ---- the rows of a word, its lowest run off
 
-module _ {word from to rest : ℕ} (h : LowestRun word from to rest) (base : ℕ) {len : ℕ} (below : Below len (set_rows base word)) where
-  pub run_inside : base + to ≤ len
-  run_inside = run-below h base below
+module _ {base word from to rest : ℕ} (h : LowestRun base word from to rest) {len : ℕ} (below : Below len (set_rows base word)) where
+  pub run_inside : to ≤ len
+  run_inside = run-below h below
 
   -- by any offsets that do not fall
-  module _ {o : ℕ → ℕ} (up : Rises o len) {x y : ℕ} (ex : x ≡ o (base + to)) (ey : y ≡ o (base + from)) where
-    whole : (y ≤ x) × (y + spans o (count_up (base + to - (base + from)) (base + from)) ≡ x)
+  module _ {o : ℕ → ℕ} (up : Rises o len) {x y : ℕ} (ex : x ≡ o to) (ey : y ≡ o from) where
+    whole : (y ≤ x) × (y + spans o (count_up (to - from) from) ≡ x)
     whole =
-        let d : base + from + (base + to - (base + from)) ≡ base + to = omega (arith, h.filled) in
-        let all = spans-run o len up (base + to - (base + from)) (base + from) (omega (arith, d, run_inside)) in
+        let d : from + (to - from) ≡ to = omega (arith, h.filled) in
+        let all = spans-run o len up (to - from) from (omega (arith, d, run_inside)) in
         rw (ex, ey) (rw d at all)
 
     pub run-rises : y ≤ x
@@ -66,34 +66,34 @@ module _ {word from to rest : ℕ} (h : LowestRun word from to rest) (base : ℕ
 
     pub run-spans : spans o (set_rows base word) ≡ x - y + spans o (set_rows base rest)
     run-spans =
-        ap (spans o) (rows-off h base)
-        ∙ spans-append o (count_up (base + to - (base + from)) (base + from)) (set_rows base rest)
+        ap (spans o) (h.rows)
+        ∙ spans-append o (count_up (to - from) from) (set_rows base rest)
         ∙ ap (◌+ spans o (set_rows base rest)) (omega (arith, whole.0, whole.1))
 
 -- by offsets that are read
-module _ {w : ℕ} {b : List ℕ} {first word from to rest : ℕ} (h : LowestRun word from to rest) (base : ℕ) (r : Rising w b first (set_rows base word)) where
-  inside : base + to ≤ r.len
-  inside = run_inside h base r.below
+module _ {w : ℕ} {b : List ℕ} {first base word from to rest : ℕ} (h : LowestRun base word from to rest) (r : Rising w b first (set_rows base word)) where
+  inside : to ≤ r.len
+  inside = run_inside h r.below
 
-  pub run_small : (base + from < 2 ^ 64) × (base + to < 2 ^ 64)
+  pub run_small : (from < 2 ^ 64) × (to < 2 ^ 64)
   run_small = (omega (arith, inside, r.small, h.filled), omega (arith, inside, r.small))
 
-  pub run_lies : first + w * (base + to) + w ≤ length b
-  run_lies = omega (arith, r.inside, mul-suc w (base + to), mul-suc w r.len, mul-le-mul_left w inside)
+  pub run_lies : first + w * to + w ≤ length b
+  run_lies = omega (arith, r.inside, mul-suc w to, mul-suc w r.len, mul-le-mul_left w inside)
 
-  pub start-lies : first + w * (base + from) + w ≤ length b
+  pub start-lies : first + w * from + w ≤ length b
   start-lies =
-      let up : w * (base + from) ≤ w * (base + to) = mul-le-mul_left w (omega (arith, h.filled)) in
+      let up : w * from ≤ w * to = mul-le-mul_left w (omega (arith, h.filled)) in
       omega (arith, run_lies)
 
   pub rising-rest : Rising w b first (set_rows base rest)
-  rising-rest = record { len = r.len; small = r.small; below = rest_below h base r.below; inside = r.inside; next = r.next }
+  rising-rest = record { len = r.len; small = r.small; below = rest_below h r.below; inside = r.inside; next = r.next }
 
-  module _ {x y : ℕ} (ex : x ≡ le w b (first + w * (base + to))) (ey : y ≡ le w b (first + w * (base + from))) where
+  module _ {x y : ℕ} (ex : x ≡ le w b (first + w * to)) (ey : y ≡ le w b (first + w * from)) where
     pub read-rises : y ≤ x
     unfolding offset_from
-    read-rises = run-rises h base r.below {o = offset_from w b first} (record { next = r.next }) ex ey
+    read-rises = run-rises h r.below {o = offset_from w b first} (record { next = r.next }) ex ey
 
     pub read-spans : spans (offset_from w b first) (set_rows base word) ≡ x - y + spans (offset_from w b first) (set_rows base rest)
     unfolding offset_from
-    read-spans = run-spans h base r.below {o = offset_from w b first} (record { next = r.next }) ex ey
+    read-spans = run-spans h r.below {o = offset_from w b first} (record { next = r.next }) ex ey

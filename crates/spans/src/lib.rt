@@ -7,7 +7,7 @@ ghost use Rattle.format.specs.Verdict.{one_of};
 ghost use Rattle.nesting.specs.Rows.{AtList};
 ghost use Rattle.spans.specs.Spans.{offset_from, first_offset, spans, Rising};
 
-use nesting::table::number;
+use words::{RowRuns, read_number};
 
 // Where row 0's offset of list node i stands, behind those of skipped rows; offsets have w bytes.
 pub fn first_offset(journal: &[u8], table: &[u32; 640], w: usize, i: usize) -> usize
@@ -24,14 +24,10 @@ pub fn word_spans(journal: &[u8], first: usize, w: usize, base: usize, word: u64
     requires word_bound { spans (offset_from w journal.now first) (set_rows base word) < 2 ^ 64 }
     ensures { result ≡ spans (offset_from w journal.now first) (set_rows base word) }
 {
-    let mut rest = word;
     let mut n: usize = 0;
-    while rest != 0 {
-        let run = words::low_run(rest);
-        let a = number(journal, first + w * (base + run.from), w);
-        let e = number(journal, first + w * (base + run.to), w);
-        n += e - a;
-        rest = run.rest;
+    for (from, to) in RowRuns::new(base, word) {
+        let end = read_number(journal, first + w * to, w) as usize;
+        n += end - read_number(journal, first + w * from, w) as usize;
     }
     n
 }

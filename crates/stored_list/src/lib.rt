@@ -5,12 +5,12 @@ ghost use Rattle.std.specs.Prelude.{◌≡◌, ◌+◌, ◌*◌, ◌^◌, ◌<�
 ghost use Rattle.format.specs.Put.{Wrote};
 ghost use Rattle.format.specs.Rows.{set_rows, Below};
 ghost use Rattle.format.specs.Slots.{picks_from, runs_from, starts_and_ends};
-ghost use Rattle.slots.specs.Source.{slot_of, Lies};
-ghost use Rattle.predicate.specs.Selection.{entries_on, picks_on};
+ghost use Rattle.slots.specs.Slot.{slot_in};
+ghost use Rattle.predicate.specs.Selection.{entries_on};
 
 use format::Route;
-use scan::Run;
-use slots::Bits;
+use slices::SlicesIterator;
+use slots::Source;
 
 // The rows base + k for the set bits k of a word, at place `at` of the list.
 fn put_word(list: &mut [u32], at: usize, base: usize, word: u64) -> usize
@@ -29,84 +29,56 @@ fn put_word(list: &mut [u32], at: usize, base: usize, word: u64) -> usize
     here
 }
 
-// The picked rows of the mask's last two words, from word w on, at place `at` of the list.
-fn store_last(s: &[u8], b: Bits, list: &mut [u32], at: usize, w: usize) -> usize
-    requires lies { Lies s.now b }
-    requires w_bound { (64 * w ≤ b.len) × (b.len < 64 * w + 128) × (b.len < 2 ^ 32) }
-    requires w_in_bounds { at + length (picks_on (slot_of s.now b) b.len (64 * w)) ≤ length list.old }
-    ensures { Wrote list.old at (picks_on (slot_of s.now b) b.len (64 * w)) list.new result }
+// The picked rows, at the front of the list: how many. The first loop has no test but its own: the words whose reads may leave the slice are the last two.
+fn store_rows(source: Source, list: &mut [u32]) -> usize
+    requires { (source.bits.len < 2 ^ 32) × (length (picks_from (slot_in source) source.bits.len 0) ≤ length list.old) }
+    ensures { Wrote list.old 0 (picks_from (slot_in source.entry) source.entry.bits.len 0) list.new result }
 {
-    let here = put_word(list, at, 64 * w, slots::word(s, b, w));
-    if b.len <= 64 * w + 64 {
-        return here;
-    }
-    put_word(list, here, 64 * w + 64, slots::word(s, b, w + 1))
-}
-
-// The picked rows, at the front of the list: how many. The loop has no test but its own: the words whose reads may leave the slice are the last two.
-fn store_rows(s: &[u8], b: Bits, list: &mut [u32]) -> usize
-    requires lies { Lies s.now b }
-    requires len_bound { (b.len < 2 ^ 32) × (length (picks_from (slot_of s.now b) b.len 0) ≤ length list.old) }
-    ensures { Wrote list.old 0 (picks_from (slot_of s.now b) b.len 0) list.new result }
-{
-    let len = b.len;
+    let whole = (source.bits.len / 64).saturating_sub(1);
     let mut here = 0;
-    let mut w: usize = 0;
-    while 64 * w + 128 <= len {
-        here = put_word(list, here, 64 * w, slots::word_in(s, b, w));
-        w += 1;
+    for w in 0..whole {
+        here = put_word(list, here, 64 * w, source.word_in(w));
     }
-    store_last(s, b, list, here, w)
+    for w in whole..source.bits.len.div_ceil(64) {
+        here = put_word(list, here, 64 * w, source.word(w));
+    }
+    here
 }
 
 // Start and end of each maximal run of picked rows, at the front of the list: how many entries.
-fn store_runs(s: &[u8], b: Bits, list: &mut [u32]) -> usize
-    requires lies { Lies s.now b }
-    requires len_bound { (b.len < 2 ^ 32) × (length (starts_and_ends (runs_from (slot_of s.now b) b.len 0)) ≤ length list.old) }
-    ensures { Wrote list.old 0 (starts_and_ends (runs_from (slot_of s.now b) b.len 0)) list.new result }
+fn store_runs(source: Source, list: &mut [u32]) -> usize
+    requires { (source.bits.len < 2 ^ 32) × (length (starts_and_ends (runs_from (slot_in source) source.bits.len 0)) ≤ length list.old) }
+    ensures { Wrote list.old 0 (starts_and_ends (runs_from (slot_in source.entry) source.entry.bits.len 0)) list.new result }
 {
     let mut here = 0;
-    let mut place = 0;
-    loop {
-        let step = slices::read_run(s, b, place);
-        let run = step.run;
-        match run {
-            Run::Span(a, e) => {
-                list[here] = a as u32;
-                list[here + 1] = e as u32;
-                here += 2;
-                place = step.at;
-            }
-            Run::End => break,
-        }
+    for (start, end) in SlicesIterator::new(source) {
+        list[here] = start as u32;
+        list[here + 1] = end as u32;
+        here += 2;
     }
     here
 }
 
 // How many entries the route's list has, where the mask picks `kept` slots.
-pub fn list_entries(s: &[u8], b: Bits, route: Route, kept: usize) -> usize
-    requires lies { Lies s.now b }
-    requires len_bound { (b.len < 2 ^ 32) × (kept ≡ length (picks_from (slot_of s.now b) b.len 0)) }
-    ensures { result ≡ length (entries_on route (slot_of s.now b) b.len) }
+pub fn list_entries(source: Source, route: Route, kept: usize) -> usize
+    requires { (source.bits.len < 2 ^ 32) × (kept ≡ length (picks_from (slot_in source) source.bits.len 0)) }
+    ensures { result ≡ length (entries_on route (slot_in source.entry) source.entry.bits.len) }
 {
     match route {
-        Route::None => 0,
-        Route::All => 0,
-        Route::Slices => 2 * slices::count_runs(s, b),
+        Route::None | Route::All => 0,
+        Route::Slices => 2 * slices::count_runs(source),
         Route::Indices => kept,
     }
 }
 
 // The route's entries, at the front of the list: how many.
-pub fn store_list(s: &[u8], b: Bits, route: Route, list: &mut [u32]) -> usize
-    requires lies { Lies s.now b }
-    requires len_bound { (b.len < 2 ^ 32) × (length (entries_on route (slot_of s.now b) b.len) ≤ length list.old) }
-    ensures { Wrote list.old 0 (entries_on route (slot_of s.now b) b.len) list.new result }
+pub fn store_list(source: Source, route: Route, list: &mut [u32]) -> usize
+    requires { (source.bits.len < 2 ^ 32) × (length (entries_on route (slot_in source) source.bits.len) ≤ length list.old) }
+    ensures { Wrote list.old 0 (entries_on route (slot_in source.entry) source.entry.bits.len) list.new result }
 {
     match route {
-        Route::None => 0,
-        Route::All => 0,
-        Route::Slices => store_runs(s, b, list),
-        Route::Indices => store_rows(s, b, list),
+        Route::None | Route::All => 0,
+        Route::Slices => store_runs(source, list),
+        Route::Indices => store_rows(source, list),
     }
 }

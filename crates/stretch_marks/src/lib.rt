@@ -60,8 +60,7 @@ fn mark_kept(
     requires node_bound { (node < node_count journal.now) × (length region.old ≡ bytes_for (rows journal.now node)) }
     ensures { region.new ≡ packed (slots_from (keeps journal.now (picks_of mask.now bits) node) (rows journal.now node) 0) }
 {
-    let n = region.len();
-    marks::fill(region, 0, n, 0);
+    region.fill(0);
     mark_stretches(mask, bits, journal, table, parents, counts, node, region);
 }
 

@@ -8,9 +8,7 @@ ghost use Rattle.stretches.specs.Stretches.{Alike, Before, Past, Ended, Found, n
 
 use crate::{Place, Stretch};
 use nesting::table::{NO_BITMAP, least, list_start, list_valid, run_end};
-use pack::read::less;
-use scan::Run;
-use slots::Bits;
+use slots::{Bits, Source};
 
 // What was told of a node: rows r to end, whether they are kept, and a row of the list above it to look from.
 pub fn note(
@@ -37,20 +35,17 @@ pub fn picked(mask: &[u8], bits: Bits, r: usize, len: usize) -> Stretch
     requires { Lies mask.now bits × (r < len) }
     ensures { Alike (slot_of mask.now bits) r len result.kept result.end }
 {
-    match scan::next_run(mask, bits, r) {
-        Run::Span(a, e) => {
-            if r < a {
-                return Stretch {
-                    kept: false,
-                    end: least(a, len),
-                };
-            }
-            Stretch {
-                kept: true,
-                end: least(e, len),
-            }
-        }
-        Run::End => Stretch {
+    let source = Source { bytes: mask, bits };
+    match scan::next_run(source, r) {
+        Some((start, _)) if r < start => Stretch {
+            kept: false,
+            end: least(start, len),
+        },
+        Some((_, end)) => Stretch {
+            kept: true,
+            end: least(end, len),
+        },
+        None => Stretch {
             kept: false,
             end: len,
         },
@@ -168,7 +163,7 @@ pub fn runs_past(journal: &[u8], table: &[u32; 640], i: usize, r: usize, x: usiz
     let skip = table[10 * i + 3] as usize;
     let mut e = r + 1;
     while e < len {
-        if x < less(run_end(journal, table, i, e), skip) {
+        if x < run_end(journal, table, i, e).saturating_sub(skip) {
             return e;
         }
         e += 1;

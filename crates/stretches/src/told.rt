@@ -9,7 +9,6 @@ ghost use Rattle.stretches.specs.Stretches.{Alike, Seen};
 use crate::Stretch;
 use crate::parts::{list_place, note, picked, runs_past, valid_to};
 use nesting::table::{LIST32, LIST64, RUNS, STRUCT, UNION, least, list_start, run_end, run_start};
-use pack::read::less;
 use slots::Bits;
 
 // Nothing is in mind yet: four numbers for each of the 64 nodes that a pack may have.
@@ -40,10 +39,10 @@ fn told_run(
 {
     let skip = table[10 * p + 3] as usize;
     let hi = least(
-        less(run_end(journal, table, p, r), skip),
+        run_end(journal, table, p, r).saturating_sub(skip),
         table[10 * p + 2] as usize,
     );
-    let mut x = less(run_start(journal, table, p, r), skip);
+    let mut x = run_start(journal, table, p, r).saturating_sub(skip);
     while x < hi {
         let s = told(mask, bits, journal, table, parents, counts, seen, p, x);
         if s.kept {

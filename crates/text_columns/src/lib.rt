@@ -7,14 +7,17 @@ ghost use Rattle.format.specs.Put.{Wrote};
 ghost use Rattle.format.specs.Slots.{picks_from};
 ghost use Rattle.format.specs.Write.{numbers, offsets};
 ghost use Rattle.predicate.specs.Selection.{Holds, Readable, kept_by};
-ghost use Rattle.texts.specs.Texts.{offset, start_in, sizes_of, texts_of, total_of, Offsets, Texts};
+ghost use Rattle.texts.specs.Texts.{offset, sizes_of, total_of, Offsets};
+ghost use Rattle.texts.specs.Own.{Have, own_of};
 
+use append::rows::ListRows;
 use predicate::{Block, Cursor, Selection};
 use slots::Bits;
-use texts::Ended;
+use texts::{Ended, OwnBytes};
+use words::{Number, SetRows};
 
-// The offsets of the kept rows, of 4 bytes: 0, and where each row ends. The sum is the length of their own bytes.
-pub fn filter_offsets32(
+// The offsets of the kept rows: 0, and where each row ends. The sum is the length of their own bytes.
+pub fn filter_offsets<N: Number>(
     out: &mut [u8],
     at: usize,
     journal: &[u8],
@@ -26,26 +29,28 @@ pub fn filter_offsets32(
 ) -> Ended
     requires readable { Readable sel s.now mask }
     requires holds { Holds sel (kept_by sel s.now mask) mask.len list.now }
-    requires offsets { Offsets 4 journal.now first mask.len }
-    requires len_in_bounds { at + length (numbers 4 (offsets (sizes_of (offset 4 journal.now first) (picks_from (kept_by sel s.now mask) mask.len 0)))) ≤ length out.old }
-    ensures wrote { Wrote out.old at (numbers 4 (offsets (sizes_of (offset 4 journal.now first) (picks_from (kept_by sel s.now mask) mask.len 0)))) out.new result.next }
-    ensures sum_value { result.sum ≡ total_of (sizes_of (offset 4 journal.now first) (picks_from (kept_by sel s.now mask) mask.len 0)) }
+    requires offsets { Offsets N.WIDTH journal.now first mask.len }
+    requires len_in_bounds { at + length (numbers N.WIDTH (offsets (sizes_of (offset N.WIDTH journal.now first) (picks_from (kept_by sel s.now mask) mask.len 0)))) ≤ length out.old }
+    ensures wrote { Wrote out.old at (numbers N.WIDTH (offsets (sizes_of (offset N.WIDTH journal.now first) (picks_from (kept_by sel s.now mask) mask.len 0)))) out.new result.next }
+    ensures sum_value { result.sum ≡ total_of (sizes_of (offset N.WIDTH journal.now first) (picks_from (kept_by sel s.now mask) mask.len 0)) }
 {
-    let from = words::put32(out, at, 0);
+    let from = N::low(0).put(out, at);
     let mut to = Ended { next: from, sum: 0 };
     let mut cur = Cursor { place: 0, index: 0 };
     loop {
         match predicate::next_block(sel, s, mask, list, cur) {
             Block::Run(a, e, next) => {
-                to = texts::offsets_run32(out, to.next, journal, first, a, e, to.sum);
+                to = texts::offsets_run::<N>(out, to.next, journal, first, a, e, to.sum);
                 cur = next;
             }
             Block::Word(base, x, next) => {
-                to = texts::offsets_word32(out, to.next, journal, first, base, x, to.sum);
+                let rows = SetRows::new(base, x);
+                to = texts::offsets_each::<N, SetRows>(out, to.next, journal, first, rows, to.sum);
                 cur = next;
             }
             Block::Listed(i, j, next) => {
-                to = texts::offsets_list32(out, to.next, journal, first, list, i, j, to.sum);
+                let rows = ListRows::new(&list[i..j]);
+                to = texts::offsets_each::<N, ListRows>(out, to.next, journal, first, rows, to.sum);
                 cur = next;
             }
             Block::End => break,
@@ -54,56 +59,11 @@ pub fn filter_offsets32(
     to
 }
 
-// The offsets of the kept rows, of 8 bytes: 0, and where each row ends. The sum is the length of their own bytes.
-pub fn filter_offsets64(
-    out: &mut [u8],
-    at: usize,
-    journal: &[u8],
-    first: usize,
-    sel: Selection,
-    s: &[u8],
-    mask: Bits,
-    list: &[u32],
-) -> Ended
-    requires readable { Readable sel s.now mask }
-    requires holds { Holds sel (kept_by sel s.now mask) mask.len list.now }
-    requires offsets { Offsets 8 journal.now first mask.len }
-    requires len_in_bounds { at + length (numbers 8 (offsets (sizes_of (offset 8 journal.now first) (picks_from (kept_by sel s.now mask) mask.len 0)))) ≤ length out.old }
-    ensures wrote { Wrote out.old at (numbers 8 (offsets (sizes_of (offset 8 journal.now first) (picks_from (kept_by sel s.now mask) mask.len 0)))) out.new result.next }
-    ensures sum_value { result.sum ≡ total_of (sizes_of (offset 8 journal.now first) (picks_from (kept_by sel s.now mask) mask.len 0)) }
-{
-    let from = words::put64(out, at, 0);
-    let mut to = Ended { next: from, sum: 0 };
-    let mut cur = Cursor { place: 0, index: 0 };
-    loop {
-        match predicate::next_block(sel, s, mask, list, cur) {
-            Block::Run(a, e, next) => {
-                to = texts::offsets_run64(out, to.next, journal, first, a, e, to.sum);
-                cur = next;
-            }
-            Block::Word(base, x, next) => {
-                to = texts::offsets_word64(out, to.next, journal, first, base, x, to.sum);
-                cur = next;
-            }
-            Block::Listed(i, j, next) => {
-                to = texts::offsets_list64(out, to.next, journal, first, list, i, j, to.sum);
-                cur = next;
-            }
-            Block::End => break,
-        }
-    }
-    to
-}
-
-// The own bytes of the kept rows, by offsets of w bytes; the data are entries of u bytes from `start` on: bytes, or those of a list's child.
+// The own bytes of the kept rows.
 pub fn filter_texts(
     out: &mut [u8],
     at: usize,
-    journal: &[u8],
-    first: usize,
-    w: usize,
-    start: usize,
-    u: usize,
+    own: OwnBytes,
     sel: Selection,
     s: &[u8],
     mask: Bits,
@@ -111,24 +71,24 @@ pub fn filter_texts(
 ) -> usize
     requires readable { Readable sel s.now mask }
     requires holds { Holds sel (kept_by sel s.now mask) mask.len list.now }
-    requires texts { Texts u w journal.now first start mask.len }
-    requires len_in_bounds { at + length (texts_of (start_in u w journal.now first) journal.now start (picks_from (kept_by sel s.now mask) mask.len 0)) ≤ length out.old }
-    ensures { Wrote out.old at (texts_of (start_in u w journal.now first) journal.now start (picks_from (kept_by sel s.now mask) mask.len 0)) out.new result }
+    requires texts { Have own mask.len }
+    requires len_in_bounds { at + length (own_of own (picks_from (kept_by sel s.now mask) mask.len 0)) ≤ length out.old }
+    ensures { Wrote out.old at (own_of own.entry (picks_from (kept_by sel s.now mask) mask.len 0)) out.new result }
 {
     let mut here = at;
     let mut cur = Cursor { place: 0, index: 0 };
     loop {
         match predicate::next_block(sel, s, mask, list, cur) {
             Block::Run(a, e, next) => {
-                here = texts::texts_run(out, here, journal, first, w, start, u, a, e);
+                here = own.put_run(out, here, a, e);
                 cur = next;
             }
             Block::Word(base, x, next) => {
-                here = texts::texts_word(out, here, journal, first, w, start, u, base, x);
+                here = own.put_word(out, here, base, x);
                 cur = next;
             }
             Block::Listed(i, j, next) => {
-                here = texts::texts_list(out, here, journal, first, w, start, u, list, i, j);
+                here = own.put_list(out, here, list, i, j);
                 cur = next;
             }
             Block::End => break,

@@ -1,15 +1,16 @@
 -- The laws of rows with own bytes: their sizes, their bytes and their rebuilt offsets row by row, and those of a run at once. Assumes nothing.
-use Rattle.std.proofs.Common.{◌≡◌, ℕ, zero, suc, ◌+◌, ◌-◌, ◌*◌, ◌<◌, ◌≤◌, List, [], ◌∷◌, ◌++◌, length, get_or, sym, refl, ap, ◌∙◌, ap₂, ⊎_elim, le_trans, le_refl, add-zero, add_assoc, mul-le-mul_left, zero-add, mul-suc, add-one, arith}
+use Rattle.std.proofs.Common.{◌≡◌, ℕ, zero, suc, ◌+◌, ◌-◌, ◌*◌, ◌^◌, ◌<◌, ◌≤◌, List, [], ◌∷◌, ◌++◌, length, get_or, sym, refl, ap, ◌∙◌, ap₂, ⊎_elim, le_trans, le_refl, add-zero, add_assoc, mul-le-mul_left, mul-le-mul_right, zero-add, mul-suc, add-one, arith}
 use Rattle.format.specs.Bytes.{table, sum_below, le, to_le, bytes_at}
 use Rattle.format.specs.Write.{total, numbers, offsets, ends}
 use Rattle.format.specs.Put.{Wrote}
-use Rattle.format.specs.Rows.{set_rows}
+use Rattle.format.specs.Rows.{set_rows, Below}
 use Rattle.format.specs.Slots.{count_up}
 use Rattle.words.specs.Run.{LowestRun}
-use Rattle.words.proofs.Carry.{rows-off, run-below, rest_below}
+use Rattle.words.proofs.Carry.{run-below}
 use Rattle.format.proofs.Measure.{length-to_le}
 use Rattle.format.proofs.Numbers.{table-front, table-ext, sum-front, numbers-none, numbers-cons, bytes-none, bytes_same, bytes-join, length-bytes}
 use Rattle.format.proofs.Put.{Left, whole, less, room, done, kept}
+use Rattle.format.proofs.RowLaws.{below_wider}
 use Rattle.append.specs.Cells.{Among}
 use Rattle.texts.specs.Texts.{offset, start_in, size, sizes_of, text, texts_of, ends_from, total_of, Offsets, Texts}
 use Rattle.append.proofs.CellLaws.{among_first, each_none, each_more, each_append}
@@ -88,25 +89,6 @@ texts-more o b start {rs} {ts} {r} e = each_more (text o b start) rs ts r e
 pub texts-append : (o : ℕ → ℕ) (b : List ℕ) (start : ℕ) (xs ys : List ℕ) → texts_of o b start (xs ++ ys) ≡ texts_of o b start xs ++ texts_of o b start ys
 unfolding texts_of
 texts-append o b start xs ys = each_append (text o b start) xs ys
-
--- the lowest run of a word's rows is the first of what is left to write
-module _ {word from to rest : ℕ} (h : LowestRun word from to rest) (base : ℕ) (o : ℕ → ℕ) (b : List ℕ) (start : ℕ) {old : List ℕ} {at : ℕ} {bs new : List ℕ} {here : ℕ}
-    (left : Left old at bs new here (texts_of o b start (set_rows base word))) where
-  abbrev run : List ℕ
-  run = texts_of o b start (count_up (base + to - (base + from)) (base + from))
-
-  texts-off : texts_of o b start (set_rows base word) ≡ run ++ texts_of o b start (set_rows base rest)
-  texts-off = ap (texts_of o b start) (rows-off h base) ∙ texts-append o b start (count_up (base + to - (base + from)) (base + from)) (set_rows base rest)
-
-  pub run_room : at + length bs ≤ length old → here + length (texts_of o b start (count_up (base + to - (base + from)) (base + from))) ≤ length new
-  run_room fit = room run (texts_of o b start (set_rows base rest)) left texts-off fit
-
-  pub run-less : {last : List ℕ} {next : ℕ} → Wrote new here (texts_of o b start (count_up (base + to - (base + from)) (base + from))) last next
-      → Left old at bs last next (texts_of o b start (set_rows base rest))
-  run-less w = less {xs = run} left texts-off w
-
-pub among-rest : {P : ℕ → Type 0} {word from to rest : ℕ} → LowestRun word from to rest → (base : ℕ) → Among P (set_rows base word) → Among P (set_rows base rest)
-among-rest h base a = record { len = a.len; below = rest_below h base a.below; holds = a.holds }
 
 -- ---- offsets that do not fall
 
@@ -188,6 +170,11 @@ offset-in {u} {w} {n = n} r l h = omega (arith, h.offsets.inside, mul-suc w n, m
 pub start-in : {u w : ℕ} {b : List ℕ} {first start n : ℕ} (r : ℕ) → r ≤ n → Texts u w b first start n → start_in u w b first r ≤ length b
 start-in {u} {w} {b} {first} {start} {n} r l h = omega (arith, risen (start_in u w b first) n (starts-rise u h.offsets) r n l (le_refl n), h.within)
 
+pub offsets-number : {w : ℕ} {b : List ℕ} {first : ℕ} {rs : List ℕ} → 1 ≤ w → length b < 2 ^ 64 → Among (Offsets w b first) rs → Below (2 ^ 64 - 1) rs
+offsets-number {w} {b} {first} some l a =
+    let few : a.len < length b = omega (arith, a.holds.inside, mul-le-mul_right (suc a.len) some) in
+    below_wider (omega arith) a.below
+
 -- where the code finds row r's own bytes
 pub start_is : (u w : ℕ) (b : List ℕ) (first r : ℕ) {x : ℕ} → x ≡ offset w b first r → u * x ≡ start_in u w b first r
 unfolding start_in
@@ -215,24 +202,21 @@ module _ {u w : ℕ} {b : List ℕ} {first start : ℕ} {rs ts : List ℕ} {r : 
   pub row-texts : (r ≤ r + 1) × Texts u w b first start (r + 1)
   row-texts = (omega arith, texts-fewer (r + 1) (omega (arith, among_first h e)) h.holds)
 
--- the first row of those left is a run of its own
-module _ (o : ℕ → ℕ) (b : List ℕ) (start : ℕ) {rs ts : List ℕ} {r : ℕ} (e : rs ≡ r ∷ ts) {old : List ℕ} {at : ℕ} {bs new : List ℕ} {here : ℕ} (left : Left old at bs new here (texts_of o b start rs)) where
-  row-off : texts_of o b start rs ≡ texts_of o b start (count_up (r + 1 - r) r) ++ texts_of o b start ts
-  unfolding count_up
-  row-off =
-      let one : r + 1 - r ≡ 1 = omega arith in
-      rw one (ap (texts_of o b start) e ∙ texts-append o b start (r ∷ []) ts)
+-- a row by itself is a run
+pub run-one : (r : ℕ) (ts : List ℕ) → count_up (r + 1 - r) r ++ ts ≡ r ∷ ts
+unfolding count_up
+run-one r ts =
+    let one : r + 1 - r ≡ 1 = omega arith in
+    rw one
 
-  pub row_room : at + length bs ≤ length old → here + length (texts_of o b start (count_up (r + 1 - r) r)) ≤ length new
-  row_room fit = room (texts_of o b start (count_up (r + 1 - r) r)) (texts_of o b start ts) left row-off fit
-
-  pub row-less : {last : List ℕ} {next : ℕ} → Wrote new here (texts_of o b start (count_up (r + 1 - r) r)) last next → Left old at bs last next (texts_of o b start ts)
-  row-less w = less {xs = texts_of o b start (count_up (r + 1 - r) r)} left row-off w
+-- each row, and the one behind it, is a number
+pub texts-number : {u w : ℕ} {b : List ℕ} {first start : ℕ} {rs : List ℕ} → length b < 2 ^ 64 → Among (Texts u w b first start) rs → Below (2 ^ 64 - 1) rs
+texts-number l a = below_wider (omega (arith, rows_few a.holds)) a.below
 
 -- a word's lowest run
-pub run-texts-fit : {u w : ℕ} {b : List ℕ} {first start word from to rest : ℕ} → LowestRun word from to rest → (base : ℕ) → Among (Texts u w b first start) (set_rows base word)
-    → (base + from ≤ base + to) × Texts u w b first start (base + to)
-run-texts-fit {to = to} h base a = (omega (arith, h.filled), texts-fewer (base + to) (run-below h base a.below) a.holds)
+pub run-texts-fit : {u w : ℕ} {b : List ℕ} {first start base word from to rest : ℕ} → LowestRun base word from to rest → Among (Texts u w b first start) (set_rows base word)
+    → (from ≤ to) × Texts u w b first start to
+run-texts-fit {to = to} h a = (omega (arith, h.filled), texts-fewer to (run-below h a.below) a.holds)
 
 module _ {u w : ℕ} {b : List ℕ} {first start a e p q : ℕ} (h : Texts u w b first start e) (up : a ≤ e) (low : p ≡ start_in u w b first a) (high : q ≡ start_in u w b first e) where
   pub run-order : p ≤ q
@@ -252,20 +236,16 @@ module _ {u w : ℕ} {b : List ℕ} {first start a e p q : ℕ} (h : Texts u w b
   run_length = ap length (sym run-texts) ∙ length-bytes b (start + p) (q - p) run_inside
 
 -- the ends of a run's rows are its offsets, all moved by the same distance
-module _ {w : ℕ} {b : List ℕ} {first a e row : ℕ} (h : Offsets w b first e) (after : a ≤ row) (before : row < e) {low high last : ℕ} (start : ℕ)
-    (first-at : low ≡ offset w b first a) (next-at : high ≡ offset w b first (row + 1)) (last-at : last ≡ offset w b first row - offset w b first a + start) where
-  up : (offset w b first a ≤ offset w b first row) × (offset w b first row ≤ offset w b first (suc row))
-  up = (risen (offset w b first) e (rises h) a row after (omega arith), h.rising row before)
+module _ {w : ℕ} {b : List ℕ} {first a e row : ℕ} (h : Offsets w b first e) (after : a ≤ row) (before : row < e) where
+  up : (offset w b first a ≤ offset w b first row) × (offset w b first row ≤ offset w b first (row + 1))
+  up = (risen (offset w b first) e (rises h) a row after (omega arith), rw add-one (h.rising row before))
 
-  step : offset w b first (row + 1) ≡ offset w b first (suc row)
-  step = ap (offset w b first) (add-one row)
+  pub run-rises : offset w b first a ≤ offset w b first (row + 1)
+  run-rises = omega (arith, up.0, up.1)
 
-  pub run-rises : low ≤ high
-  run-rises = omega (arith, up.0, up.1, step)
-
-  pub run_more : high - low + start ≡ last + size (offset w b first) row
+  pub run_more : (start : ℕ) → offset w b first (row + 1) - offset w b first a + start ≡ offset w b first row - offset w b first a + start + size (offset w b first) row
   unfolding size
-  run_more = omega (arith, up.0, up.1, step)
+  run_more start = omega (arith, up.0, up.1, ap (offset w b first) (add-one row))
 
 -- the offset behind row r's
 pub offset-next : (w : ℕ) (b : List ℕ) (first r : ℕ) → le w b (first + w * r + w) ≡ offset w b first (suc r)
@@ -280,6 +260,9 @@ pub record Ending (w : ℕ) (o : ℕ → ℕ) (start : ℕ) (all old : List ℕ)
 
 pub begins : {w : ℕ} {o : ℕ → ℕ} {start : ℕ} {all old : List ℕ} {at : ℕ} → Ending w o start all old at old at start all
 begins = record { sums = refl; left = whole refl refl }
+
+pub begins-at : {w : ℕ} {o : ℕ → ℕ} {start sum : ℕ} {all old : List ℕ} {at : ℕ} → sum ≡ start → Ending w o start all old at old at sum all
+begins-at e = rw e begins
 
 module _ {w : ℕ} {o : ℕ → ℕ} {start : ℕ} {all old : List ℕ} {at : ℕ} {new : List ℕ} {here sum : ℕ} {rs : List ℕ} (h : Ending w o start all old at new here sum rs) where
   module _ {ts : List ℕ} {r : ℕ} (e : rs ≡ r ∷ ts) where

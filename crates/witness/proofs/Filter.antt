@@ -1,6 +1,7 @@
 -- Calls of `filter` that meet every premise of demand 3 and differ in all that must not show: two that state no count and succeed, two that state one
 -- and succeed, two that are both refused by 14. Their journals have all kinds between them. Assumes nothing.
 use Prim.Native.Nat.{ℕ, ◌≤◌}
+use Rattle.std.proofs.Common.{Option, Some, None}
 use mathlib.Core.Bool.{Bool, true, false}
 use mathlib.Core.List.{List, [], ◌∷◌, ◌++◌}
 use mathlib.Core.Path.{◌≡◌, refl, sym, ◌∙◌}
@@ -8,7 +9,7 @@ use lib.Dec.{lit≤}
 use lib.ListN.{length, replicate}
 use Rattle.format.specs.declared.Pack.TheVariants.{Journal}
 use Rattle.format.specs.declared.Route.TheVariants.{Indices}
-use Rattle.format.specs.declared.Answer.TheVariants.{Done, Refused}
+use Rattle.format.specs.declared.Reason.TheVariants.{Output}
 use Rattle.format.specs.Bytes as Bytes
 use Rattle.format.specs.Node as Node
 use Rattle.format.specs.Node.{no_bitmap, rows}
@@ -21,20 +22,20 @@ use Rattle.format.specs.Kept.{columns, kept_part}
 use Rattle.format.specs.Write as Write
 use Rattle.format.specs.Write.{numbers}
 use Rattle.format.specs.Refusal as Refusals
+use Rattle.format.specs.Reason as Reasons
 use Rattle.format.specs.Answer as Answers
-use Rattle.format.specs.Answer.{call_of, stated_if, scratch_needed, list_short, scratch_short, answer, output_after, list_after, scratch_after}
+use Rattle.format.specs.Answer.{call_of, done_with, refused_for, scratch_needed, list_short, scratch_short, answer, output_after, list_after, scratch_after}
 use Rattle.format.proofs.Demand3.{Alike, Same}
 use Rattle.format.proofs.Cases.{marked, pack, old_pack, counting, node, mask_of, call, abcde, pieces, place, tight_journal, loose_journal, one_way, other_way, premises-hold, premises-succeed}
 use Rattle.filter.proofs.Demand3.{Filtered, seen, demand3}
 
 -- a call of `filter`: its contract leaves nothing open, so what it answers and leaves is what the definitions say of its arguments
-abbrev ran : List ℕ → List ℕ → Bool → ℕ → Bool → List ℕ → List ℕ → List ℕ → Filtered
-ran m j states stated asked list scratch output =
-    let c = call_of m j (stated_if states stated) asked list scratch output in
+abbrev ran : List ℕ → List ℕ → Option ℕ → Bool → List ℕ → List ℕ → List ℕ → Filtered
+ran m j stated asked list scratch output =
+    let c = call_of m j stated asked list scratch output in
     record {
       mask = m;
       journal = j;
-      states = states;
       stated = stated;
       asked = asked;
       list = list;
@@ -47,19 +48,19 @@ ran m j states stated asked list scratch output =
       ensures = record { answered = refl; written = refl; listed = refl; cleared = refl };
     }
 
--- ---- no count stated, and another number in its place: a struct of native, texts, runs, a dictionary, bits and lists (format/proofs/Cases.antt)
+-- ---- no count stated: a struct of native, texts, runs, a dictionary, bits and lists (format/proofs/Cases.antt)
 
 unstated : Filtered
-unstated = ran (mask_of 5 0x09) tight_journal false 7 false [] (9 ∷ 9 ∷ []) (replicate 528 7)
+unstated = ran (mask_of 5 0x09) tight_journal None false [] (9 ∷ 9 ∷ []) (replicate 528 7)
 
 unstated' : Filtered
-unstated' = ran (old_pack (0x7F ∷ 0xD2 ∷ []) (node 1 0 5 1 0 1 0 ∷ []) 5) loose_journal false 0 true (1 ∷ 2 ∷ 3 ∷ []) (8 ∷ 8 ∷ 8 ∷ []) (replicate 528 7)
+unstated' = ran (old_pack (0x7F ∷ 0xD2 ∷ []) (node 1 0 5 1 0 1 0 ∷ []) 5) loose_journal None true (1 ∷ 2 ∷ 3 ∷ []) (8 ∷ 8 ∷ 8 ∷ []) (replicate 528 7)
 
 unstated-alike : Same (seen unstated) (seen unstated')
 unfolding unstated unstated' one_way other_way call
 unstated-alike = demand3 unstated unstated' premises-hold
 
-unstated-succeeds : unstated.answer ≡ Done 2 5 Indices 520
+unstated-succeeds : unstated.answer ≡ done_with 2 5 Indices 520
 unfolding unstated one_way call
 unstated-succeeds = premises-succeed
 
@@ -213,10 +214,10 @@ unfolding Bytes.opened Node.opened Write.opened Answers.opened marked pack old_p
 loose-scratch = refl
 
 -- whatever count is stated and whatever the outputs are, if both calls have the same
-alike : (states : Bool) (stated : ℕ) (output : List ℕ)
-    → Alike (call_of plain_mask tight_union (stated_if states stated) false [] (9 ∷ []) output) (call_of null_mask loose_union (stated_if states stated) true (1 ∷ 2 ∷ 3 ∷ []) (8 ∷ []) output)
+alike : (stated : Option ℕ) (output : List ℕ)
+    → Alike (call_of plain_mask tight_union stated false [] (9 ∷ []) output) (call_of null_mask loose_union stated true (1 ∷ 2 ∷ 3 ∷ []) (8 ∷ []) output)
 unfolding list_short scratch_short
-alike states stated output =
+alike stated output =
     record {
       mask_c = plain-accepted;
       mask_d = null-accepted;
@@ -239,31 +240,31 @@ alike states stated output =
 -- ---- a count stated, and right
 
 counted : Filtered
-counted = ran plain_mask tight_union true 2 false [] (9 ∷ []) (replicate 656 7)
+counted = ran plain_mask tight_union (Some 2) false [] (9 ∷ []) (replicate 656 7)
 
 counted' : Filtered
-counted' = ran null_mask loose_union true 2 true (1 ∷ 2 ∷ 3 ∷ []) (8 ∷ []) (replicate 656 7)
+counted' = ran null_mask loose_union (Some 2) true (1 ∷ 2 ∷ 3 ∷ []) (8 ∷ []) (replicate 656 7)
 
 counted-alike : Same (seen counted) (seen counted')
 unfolding counted counted'
-counted-alike = demand3 counted counted' (alike true 2 (replicate 656 7))
+counted-alike = demand3 counted counted' (alike (Some 2) (replicate 656 7))
 
-counted-succeeds : counted.answer ≡ Done 2 3 Indices 656
+counted-succeeds : counted.answer ≡ done_with 2 3 Indices 656
 unfolding Bytes.opened Node.opened Verdict.opened Masks.opened Kept.opened Write.opened Refusals.opened Answers.opened marked pack old_pack counting node mask_of abcde pieces place fghijklmn tight tight_union plain_mask counted
 counted-succeeds = refl
 
 -- ---- one byte of output too few
 
 short : Filtered
-short = ran plain_mask tight_union false 5 false [] (9 ∷ []) (replicate 655 7)
+short = ran plain_mask tight_union None false [] (9 ∷ []) (replicate 655 7)
 
 short' : Filtered
-short' = ran null_mask loose_union false 6 true (1 ∷ 2 ∷ 3 ∷ []) (8 ∷ []) (replicate 655 7)
+short' = ran null_mask loose_union None true (1 ∷ 2 ∷ 3 ∷ []) (8 ∷ []) (replicate 655 7)
 
 short-alike : Same (seen short) (seen short')
 unfolding short short'
-short-alike = demand3 short short' (alike false 0 (replicate 655 7))
+short-alike = demand3 short short' (alike None (replicate 655 7))
 
-short-refused : short.answer ≡ Refused 14 Journal
-unfolding Bytes.opened Node.opened Verdict.opened Masks.opened Kept.opened Write.opened Refusals.opened Answers.opened marked pack old_pack counting node mask_of abcde pieces place fghijklmn tight tight_union plain_mask short
+short-refused : short.answer ≡ refused_for Output Journal
+unfolding Bytes.opened Node.opened Verdict.opened Masks.opened Kept.opened Write.opened Refusals.opened Reasons.opened Answers.opened marked pack old_pack counting node mask_of abcde pieces place fghijklmn tight tight_union plain_mask short
 short-refused = refl

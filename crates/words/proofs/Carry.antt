@@ -102,16 +102,18 @@ run-off (suc n) m y i p l e =
     rw (trailing_odd n m z) (record { up = up; rows = rw (add-zero, all) (ones-off (suc n) m y i l f) }))
     (parity m)
 
-pub lowest-run : (m c y : ℕ) → 0 < m → m < 2 ^ 64 → c ≡ bit_and m (m - 1) → y ≡ (m + (m - c)) % 2 ^ 64
-    → LowestRun m (count_trailing_zeros 64 m) (count_trailing_zeros 64 y) (bit_and m y)
+pub lowest-run : (base m c y : ℕ) → 0 < m → m < 2 ^ 64 → c ≡ bit_and m (m - 1) → y ≡ (m + (m - c)) % 2 ^ 64
+    → LowestRun base m (base + count_trailing_zeros 64 m) (base + count_trailing_zeros 64 y) (bit_and m y)
 unfolding set_rows
-lowest-run m c y p l ec ey =
+lowest-run base m c y p l ec ey =
     let off : (base : ℕ) → Off 64 m y base (count_trailing_zeros 64 m) (count_trailing_zeros 64 y) = λ base. run-off 64 m y base p l (ey ∙ ap (λ (k : ℕ). (m + (m - k)) % 2 ^ 64) ec) in
+    let wide : base + count_trailing_zeros 64 y - (base + count_trailing_zeros 64 m) ≡ count_trailing_zeros 64 y - count_trailing_zeros 64 m = omega arith in
     record {
-      filled = (off 0).up;
-      high = trailing_le 64 y;
+      low = omega arith;
+      filled = omega (arith, (off 0).up);
+      high = omega (arith, trailing_le 64 y);
       less = smaller (off 0);
-      rows = λ base. (off base).rows;
+      rows = rw wide (off base).rows;
     }
   where
     smaller : Off 64 m y 0 (count_trailing_zeros 64 m) (count_trailing_zeros 64 y) → bit_and m y < m
@@ -131,18 +133,12 @@ below_last len zero a p h = absurd (omega arith)
 below_last len (suc zero) a p (more h g) = omega arith
 below_last len (suc (suc n)) a p (more h g) = omega (arith, below_last len (suc n) (suc a) (omega arith) g)
 
-module _ {word from to rest : ℕ} (h : LowestRun word from to rest) (base : ℕ) where
-  pub rows-off : set_rows base word ≡ count_up (base + to - (base + from)) (base + from) ++ set_rows base rest
-  rows-off =
-      let n : base + to - (base + from) ≡ to - from = omega arith in
-      rw n (h.rows base)
+module _ {base word from to rest : ℕ} (h : LowestRun base word from to rest) {len : ℕ} (below : Below len (set_rows base word)) where
+  parts : Below len (count_up (to - from) from ++ set_rows base rest)
+  parts = rw h.rows at below
 
-  module _ {len : ℕ} (below : Below len (set_rows base word)) where
-    parts : Below len (count_up (to - from) (base + from) ++ set_rows base rest)
-    parts = rw (h.rows base) at below
+  pub run-below : to ≤ len
+  run-below = omega (arith, below_last len (to - from) from (omega (arith, h.filled)) (below_left (count_up (to - from) from) _ parts), h.filled)
 
-    pub run-below : base + to ≤ len
-    run-below = omega (arith, below_last len (to - from) (base + from) (omega (arith, h.filled)) (below_left (count_up (to - from) (base + from)) _ parts), h.filled)
-
-    pub rest_below : Below len (set_rows base rest)
-    rest_below = below_right (count_up (to - from) (base + from)) _ parts
+  pub rest_below : Below len (set_rows base rest)
+  rest_below = below_right (count_up (to - from) from) _ parts

@@ -1,2 +1,5 @@
--- The laws of a word's lowest run.
+-- The laws of numbers' bytes, and of a word's rows and runs.
+pub mod Bytes
 pub mod Carry
+pub mod Turns
+pub mod Widths

@@ -1,153 +1,239 @@
-// Numbers of 2, 4 and 8 bytes, and entries, as whole words: each number is one load or one store.
+// Numbers and entries as they stand in bytes: each is one load or one store. And the lowest run of a word's set bits.
 #![tactic(auto)]
 
-ghost use Rattle.std.specs.Prelude.{◌≡◌, ◌+◌, ◌*◌, ◌<◌, ◌≤◌, length};
+ghost use Rattle.std.specs.Prelude.{ℕ, ◌≡◌, ◌+◌, ◌^◌, ◌%◌, ◌-◌, ◌<◌, ◌≤◌, length};
 ghost use Rattle.format.specs.Put.{Wrote};
 ghost use Rattle.format.specs.Bytes.{le, to_le, bytes_at};
-ghost use Rattle.words.specs.Run.{LowestRun};
+ghost use Rattle.std.specs.Iterator.{YieldsFirst, item_count, at_most};
+ghost use Rattle.format.specs.Rows.{set_rows, Below};
+ghost use Rattle.words.specs.Run.{LowestRun, TakesRun};
+ghost use Rattle.words.specs.Width.{IsWidth, width_1, width_2, width_4, width_8};
 
-// A byte as a wider number, with its bound for the sums around it.
-fn wide(x: u8) -> u64
-    ensures { (result ≡ x) × (result < 256) }
+// N bytes of a slice from a place on.
+pub fn array_at<const N: usize>(s: &[u8], at: usize) -> [u8; N]
+    requires { at + N ≤ length s.now }
+    ensures { result ≡ bytes_at s.now at N }
 {
-    x as u64
+    let mut bytes = [0u8; N];
+    bytes.copy_from_slice(&s[at..at + N]);
+    bytes
 }
 
-fn wide32(x: u8) -> u32
-    ensures { (result ≡ x) × (result < 256) }
+// N bytes at a place of a slice.
+pub fn put_array<const N: usize>(out: &mut [u8], at: usize, bytes: [u8; N]) -> usize
+    requires { at + N ≤ length out.old }
+    ensures { Wrote out.old at bytes.entry out.new result }
 {
-    x as u32
+    out[at..at + N].copy_from_slice(&bytes);
+    at + N
 }
 
-fn wide16(x: u8) -> u16
-    ensures { (result ≡ x) × (result < 256) }
+// N bytes of src to a place. All are read before any is written, so that they are one load and one store.
+pub fn move_bytes<const N: usize>(out: &mut [u8], at: usize, src: &[u8], from: usize) -> usize
+    requires { (at + N ≤ length out.old) × (from + N ≤ length src.now) }
+    ensures { Wrote out.old at (bytes_at src.now from N) out.new result }
 {
-    x as u16
+    put_array(out, at, array_at::<N>(src, from))
 }
 
-// The number of 2, 4, 8 bytes at a place, low byte first. A sum of products is one load; the bytes of the number are those that stand there.
-pub fn get16(s: &[u8], at: usize) -> u16
-    requires { at + 2 ≤ length s.now }
-    ensures value { result ≡ le 2 s.now at }
-    ensures result_value { to_le 2 result ≡ bytes_at s.now at 2 }
-{
-    wide16(s[at]) + wide16(s[at + 1]) * 256
+// A number that stands in WIDTH bytes, low byte first.
+pub trait Number: Copy {
+    ghost WIDTH: { ℕ };
+
+    ghost value: { Self → ℕ };
+
+    const WIDTH: usize;
+
+    // The number at a place; its bytes are those that stand there.
+    fn get(s: &[u8], at: usize) -> Self
+        requires { at + WIDTH ≤ length s.now }
+        ensures value { value result ≡ le WIDTH s.now at }
+        ensures bytes { to_le WIDTH (value result) ≡ bytes_at s.now at WIDTH };
+
+    // The number at a place of a slice; the next place.
+    fn put(self, out: &mut [u8], at: usize) -> usize
+        requires { at + WIDTH ≤ length out.old }
+        ensures { Wrote out.old at (to_le WIDTH (value self)) out.new result };
+
+    // The number among those of 8 bytes, and what of such a number fits.
+    fn wide(self) -> u64
+        ensures { result ≡ value self };
+
+    fn low(x: u64) -> Self
+        ensures { value result ≡ x % 256 ^ WIDTH };
+
+    ghost width: { IsWidth WIDTH };
 }
 
-pub fn get32(s: &[u8], at: usize) -> u32
-    requires { at + 4 ≤ length s.now }
-    ensures value { result ≡ le 4 s.now at }
-    ensures result_value { to_le 4 result ≡ bytes_at s.now at 4 }
-{
-    wide32(s[at])
-        + wide32(s[at + 1]) * 0x100
-        + wide32(s[at + 2]) * 0x1_0000
-        + wide32(s[at + 3]) * 0x100_0000
+impl Number for u8 {
+    ghost WIDTH = { 1 };
+
+    ghost value = { λ x. x };
+
+    const WIDTH: usize = 1;
+
+    fn get(s: &[u8], at: usize) -> u8 {
+        s[at]
+    }
+
+    fn put(self, out: &mut [u8], at: usize) -> usize {
+        put_array(out, at, [self])
+    }
+
+    fn wide(self) -> u64 {
+        u64::from(self)
+    }
+
+    fn low(x: u64) -> u8 {
+        (x % 0x100) as u8
+    }
+
+    ghost width = { width_1 };
 }
 
-pub fn get64(s: &[u8], at: usize) -> u64
-    requires { at + 8 ≤ length s.now }
-    ensures value { result ≡ le 8 s.now at }
-    ensures result_value { to_le 8 result ≡ bytes_at s.now at 8 }
-{
-    wide(s[at])
-        + wide(s[at + 1]) * 0x100
-        + wide(s[at + 2]) * 0x1_0000
-        + wide(s[at + 3]) * 0x100_0000
-        + wide(s[at + 4]) * 0x1_0000_0000
-        + wide(s[at + 5]) * 0x100_0000_0000
-        + wide(s[at + 6]) * 0x1_0000_0000_0000
-        + wide(s[at + 7]) * 0x100_0000_0000_0000
+impl Number for u16 {
+    ghost WIDTH = { 2 };
+
+    ghost value = { λ x. x };
+
+    const WIDTH: usize = 2;
+
+    fn get(s: &[u8], at: usize) -> u16 {
+        u16::from_le_bytes(array_at(s, at))
+    }
+
+    fn put(self, out: &mut [u8], at: usize) -> usize {
+        put_array(out, at, self.to_le_bytes())
+    }
+
+    fn wide(self) -> u64 {
+        u64::from(self)
+    }
+
+    fn low(x: u64) -> u16 {
+        (x % 0x1_0000) as u16
+    }
+
+    ghost width = { width_2 };
 }
 
-// A number in 2, 4, 8 bytes at a place, low byte first. Each byte straight from the number makes one store.
-pub fn put16(out: &mut [u8], at: usize, x: u16) -> usize
-    requires { at + 2 ≤ length out.old }
-    ensures { Wrote out.old at (to_le 2 x) out.new result }
-{
-    out[at] = (x % 256) as u8;
-    out[at + 1] = (x / 0x100 % 256) as u8;
-    at + 2
+impl Number for u32 {
+    ghost WIDTH = { 4 };
+
+    ghost value = { λ x. x };
+
+    const WIDTH: usize = 4;
+
+    fn get(s: &[u8], at: usize) -> u32 {
+        u32::from_le_bytes(array_at(s, at))
+    }
+
+    fn put(self, out: &mut [u8], at: usize) -> usize {
+        put_array(out, at, self.to_le_bytes())
+    }
+
+    fn wide(self) -> u64 {
+        u64::from(self)
+    }
+
+    fn low(x: u64) -> u32 {
+        (x % 0x1_0000_0000) as u32
+    }
+
+    ghost width = { width_4 };
 }
 
-pub fn put32(out: &mut [u8], at: usize, x: u32) -> usize
-    requires { at + 4 ≤ length out.old }
-    ensures { Wrote out.old at (to_le 4 x) out.new result }
-{
-    out[at] = (x % 256) as u8;
-    out[at + 1] = (x / 0x100 % 256) as u8;
-    out[at + 2] = (x / 0x1_0000 % 256) as u8;
-    out[at + 3] = (x / 0x100_0000 % 256) as u8;
-    at + 4
+impl Number for u64 {
+    ghost WIDTH = { 8 };
+
+    ghost value = { λ x. x };
+
+    const WIDTH: usize = 8;
+
+    fn get(s: &[u8], at: usize) -> u64 {
+        u64::from_le_bytes(array_at(s, at))
+    }
+
+    fn put(self, out: &mut [u8], at: usize) -> usize {
+        put_array(out, at, self.to_le_bytes())
+    }
+
+    fn wide(self) -> u64 {
+        self
+    }
+
+    fn low(x: u64) -> u64 {
+        x
+    }
+
+    ghost width = { width_8 };
 }
 
-pub fn put64(out: &mut [u8], at: usize, x: u64) -> usize
-    requires { at + 8 ≤ length out.old }
-    ensures { Wrote out.old at (to_le 8 x) out.new result }
+// The number of so many bytes at a place, where the width is known only as the code runs.
+pub fn read_number(s: &[u8], at: usize, width: usize) -> u64
+    requires is_width { IsWidth width }
+    requires inside { at + width ≤ length s.now }
+    ensures { result ≡ le width s.now at }
 {
-    out[at] = (x % 256) as u8;
-    out[at + 1] = (x / 0x100 % 256) as u8;
-    out[at + 2] = (x / 0x1_0000 % 256) as u8;
-    out[at + 3] = (x / 0x100_0000 % 256) as u8;
-    out[at + 4] = (x / 0x1_0000_0000 % 256) as u8;
-    out[at + 5] = (x / 0x100_0000_0000 % 256) as u8;
-    out[at + 6] = (x / 0x1_0000_0000_0000 % 256) as u8;
-    out[at + 7] = (x / 0x100_0000_0000_0000 % 256) as u8;
-    at + 8
+    match width {
+        1 => u8::get(s, at).wide(),
+        2 => u16::get(s, at).wide(),
+        4 => u32::get(s, at).wide(),
+        _ => u64::get(s, at),
+    }
 }
 
-// One byte of src to a place.
-pub fn move1(out: &mut [u8], at: usize, src: &[u8], from: usize) -> usize
-    requires { (at + 1 ≤ length out.old) × (from + 1 ≤ length src.now) }
-    ensures { Wrote out.old at (bytes_at src.now from 1) out.new result }
+// A number in so many bytes at a place of a slice; only the bytes that fit are written.
+pub fn put_number(out: &mut [u8], at: usize, x: u64, width: usize) -> usize
+    requires is_width { IsWidth width }
+    requires inside { at + width ≤ length out.old }
+    ensures { Wrote out.old at (to_le width x) out.new result }
 {
-    out[at] = src[from];
-    at + 1
+    match width {
+        1 => u8::low(x).put(out, at),
+        2 => u16::low(x).put(out, at),
+        4 => u32::low(x).put(out, at),
+        _ => x.put(out, at),
+    }
 }
 
-// 2, 4, 8 bytes of src to a place, as one number.
-pub fn move2(out: &mut [u8], at: usize, src: &[u8], from: usize) -> usize
-    requires { (at + 2 ≤ length out.old) × (from + 2 ≤ length src.now) }
-    ensures { Wrote out.old at (bytes_at src.now from 2) out.new result }
-{
-    put16(out, at, get16(src, from))
+// The rows base + k for the set bits k of a word, rising.
+#[derive(Drop)]
+pub struct SetRows {
+    base: usize,
+    rest: u64,
 }
 
-pub fn move4(out: &mut [u8], at: usize, src: &[u8], from: usize) -> usize
-    requires { (at + 4 ≤ length out.old) × (from + 4 ≤ length src.now) }
-    ensures { Wrote out.old at (bytes_at src.now from 4) out.new result }
-{
-    put32(out, at, get32(src, from))
+impl SetRows {
+    pub fn new(base: usize, word: u64) -> SetRows
+        ensures base { result.base ≡ base }
+        ensures rest { result.rest ≡ word }
+    {
+        SetRows { base, rest: word }
+    }
 }
 
-pub fn move8(out: &mut [u8], at: usize, src: &[u8], from: usize) -> usize
-    requires { (at + 8 ≤ length out.old) × (from + 8 ≤ length src.now) }
-    ensures { Wrote out.old at (bytes_at src.now from 8) out.new result }
-{
-    put64(out, at, get64(src, from))
+impl Iterator for SetRows {
+    type Item = usize;
+
+    // Each row, and the one behind it, is a number.
+    ghost can_next = { λ s. Below (2 ^ 64 - 1) (set_rows s.base s.rest) };
+
+    ghost next_gives = { YieldsFirst (λ s. set_rows s.base s.rest) };
+
+    ghost remaining = { item_count (λ s. set_rows s.base s.rest) };
+
+    fn next(&mut self) -> Option<usize> {
+        if self.rest == 0 {
+            return None;
+        }
+        let row = self.base + self.rest.trailing_zeros() as usize;
+        self.rest = self.rest & self.rest.wrapping_sub(1);
+        Some(row)
+    }
 }
 
-// 16 bytes: both words are read before either is written, which makes one load and one store.
-pub fn move16(out: &mut [u8], at: usize, src: &[u8], from: usize) -> usize
-    requires { (at + 16 ≤ length out.old) × (from + 16 ≤ length src.now) }
-    ensures { Wrote out.old at (bytes_at src.now from 16) out.new result }
-{
-    let low = get64(src, from);
-    let high = get64(src, from + 8);
-    let next = put64(out, at, low);
-    put64(out, next, high)
-}
-
-// 32 bytes.
-pub fn move32(out: &mut [u8], at: usize, src: &[u8], from: usize) -> usize
-    requires { (at + 32 ≤ length out.old) × (from + 32 ≤ length src.now) }
-    ensures { Wrote out.old at (bytes_at src.now from 32) out.new result }
-{
-    let next = move16(out, at, src, from);
-    move16(out, next, src, from + 16)
-}
-
-// The lowest run of set bits of a word: bits `from` up to `to`, and the word without them.
+// The lowest run of rows base + k for the set bits k of a word, rows `from` up to `to`, and the word without it.
 #[derive(Clone, Copy)]
 pub struct LowRun {
     pub from: usize,
@@ -156,15 +242,51 @@ pub struct LowRun {
 }
 
 // Taken off by a carry: the lowest bit added clears its run and sets the bit above it.
-pub fn low_run(word: u64) -> LowRun
-    requires { 0 < word }
-    ensures { LowestRun word result.from result.to result.rest }
+pub fn lowest_run(base: usize, word: u64) -> LowRun
+    requires set { 0 < word }
+    requires fits { Below (2 ^ 64 - 1) (set_rows base word) }
+    ensures { LowestRun base word result.from result.to result.rest }
 {
-    let others = word & std::num::wrapping_sub_u64(word, 1);
-    let carried = std::num::wrapping_add_u64(word, word - others);
+    let others = word & word.wrapping_sub(1);
+    let carried = word.wrapping_add(word - others);
     LowRun {
-        from: u64::trailing_zeros(word) as usize,
-        to: u64::trailing_zeros(carried) as usize,
+        from: base + word.trailing_zeros() as usize,
+        to: base + carried.trailing_zeros() as usize,
         rest: word & carried,
+    }
+}
+
+// The runs of rows base + k for the set bits k of a word, rising: first row, and the row behind the last.
+#[derive(Drop)]
+pub struct RowRuns {
+    base: usize,
+    rest: u64,
+}
+
+impl RowRuns {
+    pub fn new(base: usize, word: u64) -> RowRuns
+        ensures base { result.base ≡ base }
+        ensures rest { result.rest ≡ word }
+    {
+        RowRuns { base, rest: word }
+    }
+}
+
+impl Iterator for RowRuns {
+    type Item = (usize, usize);
+
+    ghost can_next = { λ s. Below (2 ^ 64 - 1) (set_rows s.base s.rest) };
+
+    ghost next_gives = { λ s r t. TakesRun s.base s.rest r t.base t.rest };
+
+    ghost remaining = { λ s. at_most s.rest };
+
+    fn next(&mut self) -> Option<(usize, usize)> {
+        if self.rest == 0 {
+            return None;
+        }
+        let run = lowest_run(self.base, self.rest);
+        self.rest = run.rest;
+        Some((run.from, run.to))
     }
 }

@@ -1,78 +1,58 @@
 -- `bitmaps::filter_bits_blocks` meets its contract. The invariant: the cursor is in step, and the bits of the rows before it are packed. Assumes nothing.
-use mathlib.Core.Path.{refl, sym}
-use native.Mathlib.Omega.{arith}
-use Rattle.format.proofs.Numbers.{length-bytes}
-use Rattle.format.proofs.Put.{same_size}
+use mathlib.Core.Path.{refl, sym, ◌∙◌}
+use borrow.Author.Rules.{rules}
+use Rattle.format.specs.Bytes.{bytes_at}
 use Rattle.format.proofs.SlotLaws.{length_up}
 use Rattle.predicate.specs.Selection.{kept_by}
 use Rattle.predicate.proofs.Picks.{picks_start}
-use Rattle.predicate.proofs.Steps.{falls}
-use Rattle.bitmaps.proofs.PushLaws.{packs-done, flush-room}
+use Rattle.bitmaps.proofs.PushLaws.{packs-done, flush-room, left-in}
 use Rattle.bitmaps.proofs.BlockWalk.{walk_none, walk_more, walk-room, walk-done}
 use Rattle.bitmaps.proofs.filter_bits_blocks.Goals as goal
 
-pub loop-a-init : goal.loop-a-init
-loop-a-init c =
-    let b = c.before.before.before.before in
-    (b.requires.holds, walk_none (picks_start (kept_by b.args.sel b.args.s.now b.args.mask) b.args.mask.len))
+pub loop-start-init : goal.loop-start-init
+loop-start-init c = record {
+  in_step = c.requires.holds;
+  walked = walk_none c.new-to.ensures.begun (picks_start (kept_by c.args.sel c.args.s.now c.args.mask) c.args.mask.len);
+  same_reference = refl;
+}
 
-pub push_run-to-requires : goal.push_run-to-requires
-push_run-to-requires c = let b = c.before.before.before.before.before.before.before.before in
-    let g = rw c.in-Run.is at c.next_block.ensures in
-    let e = g.1 in
-    let w = c.loop-a.invariant.1 in
-    record { packed = w.packs.packed; a_le_e = (g.0, omega arith); a_in_bounds = walk-room w _ g.2 (sym (length_up _ _)) b.requires.len_in_bounds }
+pub next_block-requires-clause-in_step : goal.next_block-requires-clause-in_step
+next_block-requires-clause-in_step c = c.loop-start.invariant.in_step
 
-pub loop-a-preserved-in-Run : goal.loop-a-preserved-in-Run
-loop-a-preserved-in-Run c =
-    let g = rw c.in-Run.is at c.next_block.ensures in
-    (g.2.step, walk_more c.loop-a.invariant.1 g.2 c.push_run-to.ensures)
+pub push_run-requires-clause-room : goal.push_run-requires-clause-room
+push_run-requires-clause-room c = walk-room c.loop-start.invariant.walked _ c.in-Run.ensures.2 (sym (length_up _ _)) c.requires.len_in_bounds
 
-pub push_word-to-requires : goal.push_word-to-requires
-push_word-to-requires c = let b = c.before.before.before.before.before.before.before.before in
-    let g = rw c.in-Word.is at c.next_block.ensures in
-    let e = g.0 in
-    let w = c.loop-a.invariant.1 in
-    record { packed = w.packs.packed; base_bound = omega arith; word_in_bounds = walk-room w _ g.1 refl b.requires.len_in_bounds }
+pub loop-start-preserved-in-Run : goal.loop-start-preserved-in-Run
+loop-start-preserved-in-Run c =
+    let l = c.loop-start.invariant in
+    let g = c.in-Run.ensures.2 in
+    record { in_step = g.step; walked = walk_more l.walked g c.push_run.ensures; same_reference = c.push_run.ensures.same_reference ∙ l.same_reference }
 
-pub loop-a-preserved-in-Word : goal.loop-a-preserved-in-Word
-loop-a-preserved-in-Word c =
-    let g = rw c.in-Word.is at c.next_block.ensures in
-    (g.1.step, walk_more c.loop-a.invariant.1 g.1 c.push_word-to.ensures)
+pub push_word-requires-clause-room : goal.push_word-requires-clause-room
+push_word-requires-clause-room c = walk-room c.loop-start.invariant.walked _ c.in-Word.ensures.1 refl c.requires.len_in_bounds
 
-pub push_rows-to-requires : goal.push_rows-to-requires
-push_rows-to-requires c = let b = c.before.before.before.before.before.before.before.before in
-    let g = rw c.in-Listed.is at c.next_block.ensures in
-    let w = c.loop-a.invariant.1 in
-    record { packed = w.packs.packed; i_le_j = (g.0, g.1, omega arith); i_in_bounds = walk-room w _ g.2 (sym (length-bytes _ _ _ (omega arith))) b.requires.len_in_bounds }
+pub loop-start-preserved-in-Word : goal.loop-start-preserved-in-Word
+loop-start-preserved-in-Word c =
+    let l = c.loop-start.invariant in
+    let g = c.in-Word.ensures.1 in
+    record { in_step = g.step; walked = walk_more l.walked g c.push_word.ensures; same_reference = c.push_word.ensures.same_reference ∙ l.same_reference }
 
-pub loop-a-preserved : goal.loop-a-preserved
-loop-a-preserved c =
-    let g = rw c.in-Listed.is at c.next_block.ensures in
-    (g.2.step, walk_more c.loop-a.invariant.1 g.2 c.push_rows-to.ensures)
+pub push_rows-requires-clause-room : goal.push_rows-requires-clause-room
+unfolding bytes_at
+push_rows-requires-clause-room c = walk-room c.loop-start.invariant.walked _ c.in-Listed.ensures.2 refl c.requires.len_in_bounds
+
+pub loop-start-preserved : goal.loop-start-preserved
+unfolding bytes_at
+loop-start-preserved c =
+    let l = c.loop-start.invariant in
+    let g = c.in-Listed.ensures.2 in
+    record { in_step = g.step; walked = walk_more l.walked g c.push_rows.ensures; same_reference = c.push_rows.ensures.same_reference ∙ l.same_reference }
 
 -- no row is left: all bits are packed
 pub flush-requires : goal.flush-requires
-flush-requires c =
-    let p = walk-done c.loop-a.invariant.1 (rw c.in-End.is at c.next_block.ensures) in
-    (p.packed.room, flush-room p c.requires.len_in_bounds)
+flush-requires c = flush-room (walk-done c.loop-start.invariant.walked c.in-End.ensures) c.requires.len_in_bounds
 
-pub returns : goal.returns
-returns c =
-    packs-done (walk-done c.loop-a.invariant.1 (rw c.in-End.is at c.next_block.ensures))
-    c.flush.ensures
-
-pub next_block-requires : goal.next_block-requires
-next_block-requires c = record { readable = c.requires.readable; in_step = c.loop-a.invariant.0 }
-
-pub loop-a-smaller-in-Run : goal.loop-a-smaller-in-Run
-loop-a-smaller-in-Run c = falls (rw c.in-Run.is at c.next_block.ensures).2
-
-pub loop-a-smaller-in-Word : goal.loop-a-smaller-in-Word
-loop-a-smaller-in-Word c = falls (rw c.in-Word.is at c.next_block.ensures).1
-
-pub loop-a-smaller : goal.loop-a-smaller
-loop-a-smaller c = falls (rw c.in-Listed.is at c.next_block.ensures).2
-
-pub shape_of-out : goal.shape_of-out
-shape_of-out c = same_size (returns c)
+pub returns-in-End : goal.returns-in-End
+returns-in-End c =
+    let same = c.loop-start.invariant.same_reference ∙ c.new-to.ensures.same_reference in
+    left-in (search rules) (packs-done (walk-done c.loop-start.invariant.walked c.in-End.ensures) c.flush.ensures)

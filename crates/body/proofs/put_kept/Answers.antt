@@ -13,7 +13,7 @@ use Rattle.body.proofs.put_kept.Goals.{Start}
 pub put_buffers-b-requires : goal.put_buffers-b-requires
 put_buffers-b-requires c = let b = c.before.before.before.before.before.before.before.before.before in
     let node = c.node_at-node.ensures in
-    record { picked = picked_of b.requires.sound.0 b.requires.sound.1 node b.requires.chosen; kinded = kinded-of b.args.journal.now b.args.i _ _ _ node c.kind_of-k.ensures c.child_rows-n.ensures; null_value = (b.requires.null_value.0, b.requires.null_value.1, b.requires.sound.3); bits_in_bounds = b.requires.bits_in_bounds }
+    record { picked = picked_of b.requires.sound.0 b.requires.sound.1 node b.requires.chosen; kinded = kinded-of b.args.journal.now b.args.i _ _ _ node c.from-k.ensures c.child_rows-n.ensures; null_value = (b.requires.null_value.0, b.requires.null_value.1, b.requires.sound.3); bits_in_bounds = b.requires.bits_in_bounds }
 
 -- the node's buffers end where the output does, or before
 small : (c : Start) →

@@ -6,14 +6,13 @@ use Rattle.buffers.proofs.PutLaws.{puts-bytes, pad-room, bytes-room}
 use Rattle.buffers.proofs.put_spans.Goals as goal
 
 pub filter_spans-next-requires : goal.filter_spans-next-requires
-filter_spans-next-requires c = let b = c.before.before.before.before.before.before.before.before.before in
-    let w = c.pad-start.ensures in
+filter_spans-next-requires g c = let w = c.pad-start.ensures in
     let size = same_size w in
-    let fit = bytes-room b.args.at _ refl b.requires.mask_in_bounds _ w.place in
-    record { readable = b.requires.readable; holds = b.requires.holds; spans = b.requires.spans; len_in_bounds = omega arith }
+    let fit = bytes-room c.args.at _ refl c.requires.mask_in_bounds _ w.place in
+    record { readable = c.requires.readable; holds = c.requires.holds; spans = c.requires.spans; len_in_bounds = omega arith }
 
 pub pad-start-requires : goal.pad-start-requires
-pad-start-requires c = pad-room _ _ refl c.requires.mask_in_bounds
+pad-start-requires g c = pad-room _ _ refl c.requires.mask_in_bounds
 
 pub returns : goal.returns
-returns c = puts-bytes refl c.pad-start.ensures c.filter_spans-next.ensures
+returns g c = puts-bytes refl c.pad-start.ensures c.filter_spans-next.ensures

@@ -6,11 +6,10 @@ use Rattle.buffers.proofs.PutLaws.{puts-bytes, pad-room, bytes-room}
 use Rattle.buffers.proofs.put_texts.Goals as goal
 
 pub filter_texts-next-requires : goal.filter_texts-next-requires
-filter_texts-next-requires c = let b = c.before.before.before.before.before.before.before.before.before in
-    let w = c.pad-start.ensures in
+filter_texts-next-requires c = let w = c.pad-start.ensures in
     let size = same_size w in
-    let fit = bytes-room b.args.at _ refl b.requires.mask_in_bounds _ w.place in
-    record { readable = b.requires.readable; holds = b.requires.holds; texts = b.requires.texts; len_in_bounds = omega arith }
+    let fit = bytes-room c.args.at _ refl c.requires.mask_in_bounds _ w.place in
+    record { readable = c.requires.readable; holds = c.requires.holds; texts = c.requires.texts; len_in_bounds = omega arith }
 
 pub pad-start-requires : goal.pad-start-requires
 pad-start-requires c = pad-room _ _ refl c.requires.mask_in_bounds

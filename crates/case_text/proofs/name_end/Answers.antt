@@ -1,17 +1,15 @@
--- `case_text::name_end` meets its contract: what is sought from the place on is what was sought at first. Assumes nothing.
-use mathlib.Core.Path.{refl, sym, ◌∙◌}
-use native.Mathlib.Omega.{arith}
-use Rattle.case_text.proofs.Ends.{seek-on, seek-here, seek-end}
+-- The name's end is the first that is found, or the text's. Assumes nothing.
+use Rattle.std.proofs.Common.{rules, ◌∙◌, ◌≡◌, ◌≤◌, ℕ, sym, subst, length}
+use borrow.Author.Tests.{tests}
+use Rattle.std.proofs.lemmas.Iterator.{YieldsList-from_slice}
+use Rattle.std.proofs.lemmas.Iterator.Search.{position_from_yields_List}
+use Rattle.case_text.specs.Places.{ends_name, name_end}
+use Rattle.case_text.proofs.Ends.{place-is, place-le}
 use Rattle.case_text.proofs.name_end.Goals as goal
 
-pub loop-i-init : goal.loop-i-init
-loop-i-init c = (omega arith, omega arith, refl, refl)
-
-pub returns-then-c : goal.returns-then-c
-returns-then-c c = (sym (c.loop-i.invariant.3 ∙ seek-here _ _ _ _ (omega arith) c.if-c.true), omega arith, omega arith)
-
-pub loop-i-preserved : goal.loop-i-preserved
-loop-i-preserved c = (omega arith, omega arith, refl, c.loop-i.invariant.3 ∙ seek-on _ _ _ _ (omega arith) c.if-c.false)
-
 pub returns : goal.returns
-returns c = (sym (c.loop-i.invariant.3 ∙ seek-end _ _ _ _ (omega arith)), omega arith, omega arith)
+returns c =
+    let text = c.args.text.now in
+    let found = position_from_yields_List ends_name _ _ c.position.result c.position.ensures.ran (YieldsList-from_slice text c.iter.ensures.rest) (λ x b q k. search (rules, tests)) in
+    let e : c.unwrap_or.result ≡ name_end text = c.unwrap_or.ensures ∙ place-is ends_name text found in
+    (e, subst (λ (n : ℕ). n ≤ length text) (sym e) (place-le ends_name text))

@@ -1,18 +1,22 @@
--- `case_text::next_line` meets its contract: what is sought from the place on is what was sought at first. Assumes nothing.
-use borrow.Author.Tests.{eq-eqb, ne_eqb}
-use mathlib.Core.Path.{refl, sym, ◌∙◌}
-use native.Mathlib.Omega.{arith}
-use Rattle.case_text.proofs.Ends.{past-on, past-here, past_end}
+-- The line's end is the first that is found. Assumes nothing.
+use Rattle.std.proofs.Common.{rules, arith, ◌∙◌, ◌+◌, sym, ap, ℕ, drop, length-drop}
+use borrow.Author.Tests.{tests}
+use Rattle.std.proofs.lemmas.Iterator.{YieldsList-from_slice}
+use Rattle.std.proofs.lemmas.Iterator.Search.{position_from_yields_List}
+use Rattle.case_text.specs.Places.{ends_line}
+use Rattle.case_text.proofs.Ends.{place_found, place_none, cut-is}
 use Rattle.case_text.proofs.next_line.Goals as goal
 
-pub loop-i-init : goal.loop-i-init
-loop-i-init c = (omega arith, omega arith, omega arith, refl, refl)
+pub returns-in-Some : goal.returns-in-Some
+returns-in-Some c =
+    let text = c.args.text.now in
+    let found = position_from_yields_List ends_line _ _ c.position.result c.position.ensures.ran (YieldsList-from_slice text c.iter.ensures.rest) (λ x b q k. search (rules, tests)) in
+    let at = place_found ends_line text (sym c.in-Some.is ∙ found) in
+    let cut = cut-is text c.in-Some.end at.1 in
+    record { rest = cut ∙ ap (λ (n : ℕ). drop (n + 1) text) at.0; shorter = λ h. rw (cut, length-drop) (omega arith) }
 
-pub returns-then-c-eq10 : goal.returns-then-c-eq10
-returns-then-c-eq10 c = (sym (c.loop-i.invariant.4 ∙ past-here _ _ _ _ (omega arith) (eq-eqb _ _ c.if-c-eq10.true)), omega arith, omega arith)
-
-pub loop-i-preserved : goal.loop-i-preserved
-loop-i-preserved c = (omega arith, omega arith, omega arith, refl, c.loop-i.invariant.4 ∙ past-on _ _ _ _ (omega arith) (ne_eqb _ _ c.if-c-eq10.false))
-
-pub returns : goal.returns
-returns c = (sym (c.loop-i.invariant.4 ∙ past_end _ _ _ _ (omega arith)), omega arith, omega arith)
+pub returns-in-None : goal.returns-in-None
+returns-in-None c =
+    let text = c.args.text.now in
+    let found = position_from_yields_List ends_line _ _ c.position.result c.position.ensures.ran (YieldsList-from_slice text c.iter.ensures.rest) (λ x b q k. search (rules, tests)) in
+    record { rest = sym (place_none ends_line text (sym c.in-None.is ∙ found)); shorter = λ h. h }

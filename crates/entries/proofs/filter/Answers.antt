@@ -6,7 +6,7 @@ use Rattle.entries.proofs.filter.Goals as goal
 
 pub returns : goal.returns
 returns c =
-    let p = c.filter-told.ensures in
+    let p = rw c.then_some.ensures at c.filter-told.ensures in
     record {
       slip = c.refusal_number.ensures ∙ ap refusal_number p.answered;
       numbered = c.answer_numbers.ensures ∙ ap answer_numbers p.answered;

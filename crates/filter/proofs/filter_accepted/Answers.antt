@@ -12,13 +12,13 @@ rows_are : (c : After-node_at) → c.node_at.result.rows ≡ rows c.args.journal
 rows_are c = ap (λ (n : Node). n.rows) c.node_at.ensures
 
 pub returns-then-node_at-len : goal.returns-then-node_at-len
-returns-then-node_at-len c = long-mask c.requires (rows_are (goal.at.returns-then-node_at-len c).After-node_at) c.if-node_at-len.true
+returns-then-node_at-len c = rw c.new.ensures (long-mask c.requires (rows_are (goal.at.returns-then-node_at-len c).After-node_at) c.if-node_at-len.true)
 
 pub default_strategy-route-requires : goal.default_strategy-route-requires
 default_strategy-route-requires c = let p = c.requires.mask in (few-slots p, few-kept p)
 
 pub returns-then-list_short : goal.returns-then-list_short
-returns-then-list_short c = let p = c.requires in short-list p (not-long p (rows_are (goal.at.returns-then-list_short c).After-node_at) c.if-node_at-len.false) c.list_short.ensures c.if-list_short.true
+returns-then-list_short c = let p = c.requires in rw c.new-then-list_short.ensures (short-list p (not-long p (rows_are (goal.at.returns-then-list_short c).After-node_at) c.if-node_at-len.false) c.list_short.ensures c.if-list_short.true)
 
 pub filter_listed-requires : goal.filter_listed-requires
 filter_listed-requires c =

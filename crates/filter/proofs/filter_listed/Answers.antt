@@ -10,7 +10,7 @@ pub scratch_needed-need-requires : goal.scratch_needed-need-requires
 scratch_needed-need-requires c = (journal-sound c.requires, c.table_of-table.ensures)
 
 pub returns-then-scratch-need : goal.returns-then-scratch-need
-returns-then-scratch-need c = short-scratch c.requires c.scratch_needed-need.ensures c.if-scratch-need.true
+returns-then-scratch-need c = rw c.new.ensures (short-scratch c.requires c.scratch_needed-need.ensures c.if-scratch-need.true)
 
 pub parents_of-parents-requires : goal.parents_of-parents-requires
 parents_of-parents-requires c = (journal-sound c.requires).shape.few
@@ -24,7 +24,7 @@ measure-size-requires c = let p = c.requires in
 
 pub returns-then-too_long : goal.returns-then-too_long
 returns-then-too_long c =
-    short-output c.requires c.scratch_needed-need.ensures c.if-scratch-need.false c.measure-size.ensures (sym c.too_long.ensures ∙ c.if-too_long.true)
+    rw c.new-then-too_long.ensures (short-output c.requires c.scratch_needed-need.ensures c.if-scratch-need.false c.measure-size.ensures (sym c.too_long.ensures ∙ c.if-too_long.true))
 
 pub filter_roomy-requires : goal.filter_roomy-requires
 filter_roomy-requires c =

@@ -1,38 +1,15 @@
--- `gather::gather_list` meets its contract: what the loop of its width does. Assumes nothing.
+-- `gather::gather_list` meets its contract: a part of a list as its rows. Assumes nothing.
+use Rattle.format.specs.Bytes.{bytes_at}
 use Rattle.gather.proofs.gather_list.Goals as goal
 
-pub gather_list8-requires : goal.gather_list8-requires
-gather_list8-requires c = rw c.in-8.is at c.requires
+pub gather_rows-requires-clause-among : goal.gather_rows-requires-clause-among
+unfolding bytes_at
+gather_rows-requires-clause-among c = rw c.new.ensures c.requires.among
 
-pub gather_list4-requires : goal.gather_list4-requires
-gather_list4-requires c = rw c.in-4.is at c.requires
+pub gather_rows-requires-clause-rows_in_bounds : goal.gather_rows-requires-clause-rows_in_bounds
+unfolding bytes_at
+gather_rows-requires-clause-rows_in_bounds c = rw c.new.ensures c.requires.i_in_bounds
 
-pub gather_list16-requires : goal.gather_list16-requires
-gather_list16-requires c = rw c.in-16.is at c.requires
-
-pub gather_list2-requires : goal.gather_list2-requires
-gather_list2-requires c = rw c.in-2.is at c.requires
-
-pub gather_list1-requires : goal.gather_list1-requires
-gather_list1-requires c = rw c.in-1.is at c.requires
-
-pub gather_list32-requires : goal.gather_list32-requires
-gather_list32-requires c = rw c.in-32.is at c.requires
-
-pub returns-in-8 : goal.returns-in-8
-returns-in-8 c = rw c.in-8.is c.gather_list8.ensures
-
-pub returns-in-4 : goal.returns-in-4
-returns-in-4 c = rw c.in-4.is c.gather_list4.ensures
-
-pub returns-in-16 : goal.returns-in-16
-returns-in-16 c = rw c.in-16.is c.gather_list16.ensures
-
-pub returns-in-2 : goal.returns-in-2
-returns-in-2 c = rw c.in-2.is c.gather_list2.ensures
-
-pub returns-in-1 : goal.returns-in-1
-returns-in-1 c = rw c.in-1.is c.gather_list1.ensures
-
-pub returns-in-32 : goal.returns-in-32
-returns-in-32 c = rw c.in-32.is c.gather_list32.ensures
+pub returns : goal.returns
+unfolding bytes_at
+returns c = rw c.new.ensures at c.gather_rows.ensures

@@ -9,7 +9,7 @@ use Rattle.spans.specs.Spans.{offset_from, spans}
 use Rattle.spans.proofs.ByWords.{no_words, rising_word, word_small, word_fits, word_more, word_none}
 use Rattle.list_counts.proofs.Counts.{counted, list-laid, counted-word, counted-past, none_passed, none-counted, all-counted, passed_over}
 use Rattle.list_counts.proofs.count_spans.Goals as goal
-use Rattle.list_counts.proofs.count_spans.Goals.{Else-x-ne0, Joined-k-len}
+use Rattle.list_counts.proofs.count_spans.Goals.{Else-x-ne0}
 use mathlib.Core.Logic.{inl, inr}
 
 pub first_offset-first-requires : goal.first_offset-first-requires
@@ -21,29 +21,11 @@ loop-k-init c = (omega arith, no_words _ _)
 pub overflow_mul-k : goal.overflow_mul-k
 overflow_mul-k c = omega (arith, c.requires.lies.small, c.requires.lies.values)
 
-pub overflow_mul-k-in-loop-k : goal.overflow_mul-k-in-loop-k
-overflow_mul-k-in-loop-k c = omega (arith, c.requires.lies.small, c.requires.lies.values)
-
-pub overflow_add-k : goal.overflow_add-k
-overflow_add-k c = omega (arith, c.requires.lies.small, c.requires.lies.values)
-
-pub word_in-x-requires : goal.word_in-x-requires
-word_in-x-requires c = record { lies = c.requires.lies; w_bound = omega arith }
-
-pub word-x-requires : goal.word-x-requires
-word-x-requires c = record { lies = c.requires.lies; w_bound = omega arith }
-
--- by either way it is the mask's word
-is_word : (c : Joined-k-len) →
-    let a = c.args in
-    c.if-k-len.x ≡ word_at a.mask.now a.bits c.loop-k.k
-is_word c = elim (c.if-k-len.branch-raw) [ inl v ↦ v.x-is ∙ v.word_in-x.ensures | inr v ↦ v.x-is ∙ v.word-x.ensures ]
-
 pub overflow_mul-base : goal.overflow_mul-base
 overflow_mul-base c = omega (arith, c.requires.lies.small, c.requires.lies.values)
 
-pub overflow_add-k-in-loop-k : goal.overflow_add-k-in-loop-k
-overflow_add-k-in-loop-k c = omega (arith, c.requires.lies.small, c.requires.lies.values)
+pub overflow_add-k : goal.overflow_add-k
+overflow_add-k c = omega (arith, c.requires.lies.small, c.requires.lies.values)
 
 pub valid_rows-kept-requires : goal.valid_rows-kept-requires
 valid_rows-kept-requires c = record { at_list = c.requires.at_list; base_bound = omega (arith, c.requires.lies.small, c.requires.lies.values) }
@@ -52,7 +34,7 @@ pub word_spans-n-requires : goal.word_spans-n-requires
 word_spans-n-requires c = let k = c.loop-k.k in
     let laid = list-laid c.requires.at_list c.first_offset-first.ensures in
     let past = counted-past c.requires.at_list _ _ c.requires.sifted in
-    let word = counted-word c.requires.at_list _ _ k (is_word (goal.at.word_spans-n-requires c).Joined-k-len) c.valid_rows-kept.ensures in
+    let word = counted-word c.requires.at_list _ _ k c.word-x.ensures c.valid_rows-kept.ensures in
     record { w_value = list-wide c.requires.at_list; rising = rising_word laid past (64 * k) word; word_bound = word_small laid.mounts past (64 * k) word }
 
 pub overflow_add-n : goal.overflow_add-n
@@ -60,7 +42,7 @@ overflow_add-n c =
     let k = c.loop-k.k in
     let laid = list-laid c.requires.at_list c.first_offset-first.ensures in
     let past = counted-past c.requires.at_list _ _ c.requires.sifted in
-    let word = counted-word c.requires.at_list _ _ k (is_word (goal.at.overflow_add-n c).Joined-k-len) c.valid_rows-kept.ensures in
+    let word = counted-word c.requires.at_list _ _ k c.word-x.ensures c.valid_rows-kept.ensures in
     record { fits = word_fits laid.mounts past (64 * k) word c.loop-k.invariant.1 c.word_spans-n.ensures }
 
 pub loop-k-smaller-then-x-ne0 : goal.loop-k-smaller-then-x-ne0
@@ -71,11 +53,8 @@ loop-k-preserved-then-x-ne0 c =
     let k = c.loop-k.k in
     let laid = list-laid c.requires.at_list c.first_offset-first.ensures in
     let past = counted-past c.requires.at_list _ _ c.requires.sifted in
-    let word = counted-word c.requires.at_list _ _ k (is_word (goal.at.loop-k-preserved-then-x-ne0 c).Joined-k-len) c.valid_rows-kept.ensures in
+    let word = counted-word c.requires.at_list _ _ k c.word-x.ensures c.valid_rows-kept.ensures in
     (omega arith, word_more laid.mounts past (64 * k) word c.loop-k.invariant.1 c.word_spans-n.ensures _ (omega arith))
-
-pub blank_end-k-requires : goal.blank_end-k-requires
-blank_end-k-requires c = record { lies = c.requires.lies; from_bound = omega arith }
 
 pub loop-k-smaller-then-k-eq0 : goal.loop-k-smaller-then-k-eq0
 loop-k-smaller-then-k-eq0 c = omega (arith, c.blank_end-k.ensures.low)
@@ -87,7 +66,7 @@ empty : (c : Else-x-ne0) →
     k.n ≡ spans (offset_from a.w a.journal.now c.first_offset-first.result) (chosen (counted a.mask.now a.bits a.journal.now a.i) (64 * (k.k + 1)))
 empty c =
     let k = c.loop-k.k in
-    let word = none-counted c.requires.at_list _ _ k (is_word (goal.at.Else-x-ne0 c).Joined-k-len) c.if-x-ne0.false in
+    let word = none-counted c.requires.at_list _ _ k c.word-x.ensures c.if-x-ne0.false in
     word_none (list-laid c.requires.at_list c.first_offset-first.ensures).mounts (counted-past c.requires.at_list _ _ c.requires.sifted) (64 * k) word refl c.loop-k.invariant.1 _ (omega arith)
 
 -- and those passed over after it

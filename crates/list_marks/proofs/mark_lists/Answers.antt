@@ -4,6 +4,7 @@ use native.Mathlib.Omega.{arith}
 use lib.ListN.{get_or}
 use Rattle.format.specs.Bytes.{bytes_for}
 use Rattle.nesting.proofs.ListAt.{child-few, child-low, child-rows}
+use Rattle.marks.proofs.Stored.{filled-wrote}
 use Rattle.list_marks.proofs.Parts.{part-long}
 use Rattle.list_marks.proofs.Zeroed.{zeroed-front, zeroed-length, zeroed-packed}
 use borrow.Author.Rules.{rules}
@@ -49,21 +50,14 @@ slice_bounds-fill-end c =
     let q = c.requires in
     omega (arith, child-rows q.at_list, q.i_in_bounds)
 
-pub fill-requires : goal.fill-requires
-unfolding bytes_for
-fill-requires c =
-    let a = c.args in
-    let q = c.requires in
-    (omega arith, omega (arith, part-long a.at (a.at + (get_or a.table.now (10 * a.i + 12) 0 + 7) / 8 - a.at) a.scratch.now (omega (arith, child-rows q.at_list, q.i_in_bounds))))
-
 pub mark_words-requires : goal.mark_words-requires
 unfolding bytes_for
 mark_words-requires c = let a = c.args in
     let q = c.requires in
     let size = (get_or a.table.now (10 * a.i + 12) 0 + 7) / 8 in
-    let zeros = c.fill.ensures in
-    let front = zeroed-front a.at (a.at + size - a.at) (size - 0) a.scratch.now (omega (arith, child-rows q.at_list, q.i_in_bounds)) zeros in
-    let long = zeroed-length a.at (a.at + size - a.at) (size - 0) a.scratch.now (omega (arith, child-rows q.at_list, q.i_in_bounds)) zeros in
+    let zeros = filled-wrote 0 (c.fill.ensures.after (λ y same. same)) in
+    let front = zeroed-front a.at (a.at + size - a.at) _ a.scratch.now (omega (arith, child-rows q.at_list, q.i_in_bounds)) zeros in
+    let long = zeroed-length a.at (a.at + size - a.at) _ a.scratch.now (omega (arith, child-rows q.at_list, q.i_in_bounds)) zeros in
     record { lies = rw front q.lies; at_list = q.at_list; sifted = rw front q.sifted; at_le_next = (omega arith, omega (arith, long, child-rows q.at_list, q.i_in_bounds), omega (arith, child-rows q.at_list)) }
 
 pub shape_of-scratch : goal.shape_of-scratch
@@ -75,5 +69,5 @@ returns c =
     let a = c.args in
     let q = c.requires in
     let size = (get_or a.table.now (10 * a.i + 12) 0 + 7) / 8 in
-    zeroed-packed a.at (a.at + size - a.at) (size - 0) a.scratch.now (omega (arith, child-rows q.at_list, q.i_in_bounds)) c.fill.ensures q.at_list a.in_mask a.mask.now
-    a.bits q.sifted (omega arith) (omega (arith, child-rows q.at_list)) (omega arith) c.mark_words.ensures
+    zeroed-packed a.at (a.at + size - a.at) _ a.scratch.now (omega (arith, child-rows q.at_list, q.i_in_bounds)) (filled-wrote 0 (c.fill.ensures.after (λ y same. same))) q.at_list a.in_mask a.mask.now
+    a.bits q.sifted (part-long a.at (a.at + size - a.at) a.scratch.now (omega (arith, child-rows q.at_list, q.i_in_bounds))) (omega (arith, child-rows q.at_list)) (omega arith) c.mark_words.ensures

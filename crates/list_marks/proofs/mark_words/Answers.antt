@@ -16,7 +16,7 @@ use Rattle.nesting.proofs.Picks.{none-past}
 use Rattle.spans.proofs.Listed.{offset-is}
 use Rattle.list_marks.proofs.Rooted.{spanning, word_below, words-none, words_more, words_same, words-all}
 use Rattle.list_marks.proofs.mark_words.Goals as goal
-use Rattle.list_marks.proofs.mark_words.Goals.{After-standing-source, Joined-m-len}
+use Rattle.list_marks.proofs.mark_words.Goals.{After-standing, After-word-x}
 use mathlib.Core.Logic.{inl, inr}
 
 pub first_offset-first-requires : goal.first_offset-first-requires
@@ -26,68 +26,39 @@ pub loop-m-init : goal.loop-m-init
 loop-m-init c =
     let a = c.args in
     let q = c.requires in
-    (omega arith, part-start a.at (a.next - a.at) _ (omega (arith, q.at_le_next.0, q.at_le_next.1)) (words-none (slot_of (cond a.in_mask a.mask.now (take a.at a.scratch.now)) a.bits) (valid a.journal.now a.i) (first_number a.w a.journal.now a.i)))
-
-pub overflow_mul-m : goal.overflow_mul-m
-overflow_mul-m c =
-    let q = c.requires in
-    omega (arith, q.lies.small, q.lies.values)
+    (part-start a.at (a.next - a.at) _ (omega (arith, q.at_le_next.0, q.at_le_next.1)) (words-none (slot_of (cond a.in_mask a.mask.now (take a.at a.scratch.now)) a.bits) (valid a.journal.now a.i) (first_number a.w a.journal.now a.i)))
 
 pub slice_bounds-standing-end : goal.slice_bounds-standing-end
 slice_bounds-standing-end c =
     let q = c.requires in
-    omega (arith, (length-same (omega (arith, q.at_le_next.0, q.at_le_next.1)) c.loop-m.invariant.1), q.at_le_next.0, q.at_le_next.1)
+    omega (arith, (length-same (omega (arith, q.at_le_next.0, q.at_le_next.1)) c.loop-m.invariant), q.at_le_next.0, q.at_le_next.1)
 
 pub slice_bounds-standing-end-in-loop-m : goal.slice_bounds-standing-end-in-loop-m
 slice_bounds-standing-end-in-loop-m c =
     let q = c.requires in
-    sym (length-take-le c.args.at _ (omega (arith, (length-same (omega (arith, q.at_le_next.0, q.at_le_next.1)) c.loop-m.invariant.1), q.at_le_next.0, q.at_le_next.1)))
+    sym (length-take-le c.args.at _ (omega (arith, (length-same (omega (arith, q.at_le_next.0, q.at_le_next.1)) c.loop-m.invariant), q.at_le_next.0, q.at_le_next.1)))
 
-pub standing-source-requires : goal.standing-source-requires
-standing-source-requires c = tt
+pub standing-requires : goal.standing-requires
+standing-requires c = tt
 
 -- the source is as it was at first
-stands : (c : After-standing-source) →
+stands : (c : After-standing) →
     let a = c.args in
-    c.standing-source.result.now ≡ cond a.in_mask a.mask.now (take a.at a.scratch.now)
+    c.standing.result.now ≡ cond a.in_mask a.mask.now (take a.at a.scratch.now)
 stands c =
     let a = c.args in
     let q = c.requires in
-    c.standing-source.ensures ∙ ap (cond a.in_mask a.mask.now) (front_same (omega (arith, q.at_le_next.0, q.at_le_next.1)) c.loop-m.invariant.1)
+    c.standing.ensures ∙ ap (cond a.in_mask a.mask.now) (front_same (omega (arith, q.at_le_next.0, q.at_le_next.1)) c.loop-m.invariant)
 
-pub overflow_mul-m-in-loop-m : goal.overflow_mul-m-in-loop-m
-overflow_mul-m-in-loop-m c =
-    let q = c.requires in
-    omega (arith, q.lies.small, q.lies.values)
-
-pub overflow_add-m : goal.overflow_add-m
-overflow_add-m c =
-    let q = c.requires in
-    omega (arith, q.lies.small, q.lies.values)
-
-pub word_in-x-requires : goal.word_in-x-requires
-word_in-x-requires c = let q = c.requires in
-    record { lies = rw (stands (goal.at.word_in-x-requires c).After-standing-source) q.lies; w_bound = omega arith }
-
-pub word-x-requires : goal.word-x-requires
-word-x-requires c = let q = c.requires in
-    record { lies = rw (stands (goal.at.word-x-requires c).After-standing-source) q.lies; w_bound = omega arith }
-
--- by either way it is the source's word, as at first
-is_word : (c : Joined-m-len) →
+-- it is the source's word, as at first
+is_word : (c : After-word-x) →
     let a = c.args in
-    c.if-m-len.x ≡ word_at (cond a.in_mask a.mask.now (take a.at a.scratch.now)) a.bits c.loop-m.m
+    c.word-x.result ≡ word_at (cond a.in_mask a.mask.now (take a.at a.scratch.now)) a.bits c.loop-m.m
 is_word c =
-    let same = ap (λ (s : List ℕ). word_at s c.args.bits c.loop-m.m) (stands (goal.at.Joined-m-len c).After-standing-source) in
-    elim (c.if-m-len.branch-raw) [ inl v ↦ v.x-is ∙ v.word_in-x.ensures ∙ same | inr v ↦ v.x-is ∙ v.word-x.ensures ∙ same ]
+    c.word-x.ensures ∙ ap (λ (s : List ℕ). word_at s c.args.bits c.loop-m.m) (stands (goal.at.After-word-x c).After-standing)
 
 pub overflow_mul-base : goal.overflow_mul-base
 overflow_mul-base c =
-    let q = c.requires in
-    omega (arith, q.lies.small, q.lies.values)
-
-pub overflow_add-m-in-loop-m : goal.overflow_add-m-in-loop-m
-overflow_add-m-in-loop-m c =
     let q = c.requires in
     omega (arith, q.lies.small, q.lies.values)
 
@@ -104,38 +75,32 @@ slice_bounds-mark_rows-start c = c.requires.at_le_next.0
 pub slice_bounds-mark_rows-end : goal.slice_bounds-mark_rows-end
 slice_bounds-mark_rows-end c =
     let q = c.requires in
-    omega (arith, (length-same (omega (arith, q.at_le_next.0, q.at_le_next.1)) c.loop-m.invariant.1), q.at_le_next.1)
+    omega (arith, (length-same (omega (arith, q.at_le_next.0, q.at_le_next.1)) c.loop-m.invariant), q.at_le_next.1)
 
 pub mark_rows-requires : goal.mark_rows-requires
 mark_rows-requires c = let q = c.requires in
     let a = c.args in
     let l = c.loop-m in
-    record { w_value = list-wide q.at_list; spanning = spanning q.at_list _ c.first_offset-first.ensures _ (omega (arith, q.at_le_next.2, part-long a.at (a.next - a.at) l.scratch (omega (arith, (length-same (omega (arith, q.at_le_next.0, q.at_le_next.1)) l.invariant.1), q.at_le_next.0, q.at_le_next.1)))) _ (word_below _ (valid _ _) _ (none-past (cond a.in_mask a.mask.now (take a.at a.scratch.now)) a.bits _ q.sifted) (64 * l.m) (is_word (goal.at.mark_rows-requires c).Joined-m-len) c.valid_rows-kept.ensures) }
-
-pub loop-m-smaller-then-x-ne0 : goal.loop-m-smaller-then-x-ne0
-loop-m-smaller-then-x-ne0 c = omega arith
-
-pub loop-m-preserved-then-x-ne0 : goal.loop-m-preserved-then-x-ne0
-loop-m-preserved-then-x-ne0 c =
-    let q = c.requires in
-    let l = c.loop-m in
-    (omega arith, part-more (omega (arith, q.at_le_next.0, q.at_le_next.1)) l.invariant.1 (words_more _ _ _ (64 * l.m) (64 * (l.m + 1)) (omega arith) (marked-part (omega (arith, q.at_le_next.0, q.at_le_next.1)) l.invariant.1) _ (offset-is q.at_list _ c.first_offset-first.ensures) _ _ (is_word (goal.at.loop-m-preserved-then-x-ne0 c).Joined-m-len) c.valid_rows-kept.ensures c.mark_rows.ensures))
-
-pub loop-m-smaller : goal.loop-m-smaller
-loop-m-smaller c = omega arith
+    record { w_value = list-wide q.at_list; spanning = spanning q.at_list _ c.first_offset-first.ensures _ (omega (arith, q.at_le_next.2, part-long a.at (a.next - a.at) l.scratch (omega (arith, (length-same (omega (arith, q.at_le_next.0, q.at_le_next.1)) l.invariant), q.at_le_next.0, q.at_le_next.1)))) _ (word_below _ (valid _ _) _ (none-past (cond a.in_mask a.mask.now (take a.at a.scratch.now)) a.bits _ q.sifted) (64 * l.m) (is_word (goal.at.mark_rows-requires c).After-word-x) c.valid_rows-kept.ensures) }
 
 pub loop-m-preserved : goal.loop-m-preserved
 loop-m-preserved c =
+    let q = c.requires in
     let l = c.loop-m in
-    (omega arith, part-as l.invariant.1 (λ k. words_same _ _ _ (64 * l.m) (64 * (l.m + 1)) (omega arith) k _ c.if-x-ne0.false (is_word (goal.at.loop-m-preserved c).Joined-m-len)))
+    part-more (omega (arith, q.at_le_next.0, q.at_le_next.1)) l.invariant (words_more _ _ _ (64 * l.m) (64 * (l.m + 1)) (omega arith) (marked-part (omega (arith, q.at_le_next.0, q.at_le_next.1)) l.invariant) _ (offset-is q.at_list _ c.first_offset-first.ensures) _ _ (is_word (goal.at.loop-m-preserved c).After-word-x) c.valid_rows-kept.ensures c.mark_rows.ensures)
+
+pub loop-m-preserved-then-x-eq0 : goal.loop-m-preserved-then-x-eq0
+loop-m-preserved-then-x-eq0 c =
+    let l = c.loop-m in
+    part-as l.invariant (λ k. words_same _ _ _ (64 * l.m) (64 * (l.m + 1)) (omega arith) k _ c.if-x-eq0.true (is_word (goal.at.loop-m-preserved-then-x-eq0 c).After-word-x))
 
 pub shape_of-scratch : goal.shape_of-scratch
 shape_of-scratch c =
     let q = c.requires in
-    length-same (omega (arith, q.at_le_next.0, q.at_le_next.1)) c.loop-m.invariant.1
+    length-same (omega (arith, q.at_le_next.0, q.at_le_next.1)) c.loop-m.invariant
 
 pub returns : goal.returns
 returns c =
     let a = c.args in
     let l = c.loop-m in
-    part-as l.invariant.1 (λ k. words-all (slot_of (cond a.in_mask a.mask.now (take a.at a.scratch.now)) a.bits) (valid a.journal.now a.i) (first_number a.w a.journal.now a.i) a.bits.len (64 * l.m) (omega arith) (λ j h. slot-past _ _ j h) k)
+    part-as l.invariant (λ k. words-all (slot_of (cond a.in_mask a.mask.now (take a.at a.scratch.now)) a.bits) (valid a.journal.now a.i) (first_number a.w a.journal.now a.i) a.bits.len (64 * l.m) (omega arith) (λ j h. slot-past _ _ j h) k)

@@ -1,4 +1,4 @@
--- What the loops of `mark_words` keep, and their measures. Assumes nothing.
+-- What the loop of `mark_words` keeps. Assumes nothing.
 use Prim.Native.Nat.{◌+◌, ◌*◌, ◌-◌, ◌≤◌}
 use mathlib.Core.Bool.{cond, ◌&&◌}
 use lib.ListN.{take}
@@ -11,8 +11,4 @@ use Rattle.list_marks.proofs.mark_words.Given as goal
 
 abbrev pub invariant-loop-m : goal.invariant-loop-m
 invariant-loop-m l =
-    (64 * l.m ≤ l.bits.len + 64)
-    × MarkedPart (in_spans (first_number l.w l.journal l.i) (picks_from (λ r. slot_of (cond l.in_mask l.mask (take l.at l.initial.scratch)) l.bits r && valid l.journal l.i r) (64 * l.m) 0)) l.at (l.next - l.at) l.initial.scratch l.scratch
-
-abbrev pub decreases-loop-m : goal.decreases-loop-m
-decreases-loop-m l = l.bits.len - l.m
+    MarkedPart (in_spans (first_number l.w l.journal l.i) (picks_from (λ r. slot_of (cond l.in_mask l.mask (take l.at l.initial.scratch)) l.bits r && valid l.journal l.i r) (64 * l.m) 0)) l.at (l.next - l.at) l.initial.scratch l.scratch

@@ -1,5 +1,7 @@
 -- `marks::mark_bytes` meets its contract: ranges that meet are one. Assumes nothing.
-use Prim.Native.Nat.{◌*◌, ◌/◌, ◌+◌}
+use Prim.Native.Nat.{◌*◌, ◌/◌, ◌+◌, ◌-◌}
+use borrow.Rule.Slice.PartMut.{put_mid}
+use Rattle.marks.proofs.Stored.{part-filled}
 use native.Mathlib.Omega.{arith}
 use borrow.Author.Rules.{rules}
 use Rattle.format.specs.Bytes.{within}
@@ -19,19 +21,17 @@ returns-then-a-e c =
 pub mark_byte-requires-2 : goal.mark_byte-requires-2
 mark_byte-requires-2 c = search rules
 
-pub fill-requires : goal.fill-requires
-fill-requires c = (omega arith, omega (arith, c.mark_byte-2.ensures.size))
-
 -- all but the last byte
 front : (c : After-fill) →
     let a = c.args in
-    Marked (within 0 a.lo (8 * (a.hi / 8))) a.s.now c.fill.new.s
+    Marked (within 0 a.lo (8 * (a.hi / 8))) a.s.now (put_mid (a.lo / 8 + 1) (a.hi / 8 - (a.lo / 8 + 1)) c.mark_byte-2.new.s c.fill.new.self)
 front c =
     let a = c.args in
     let first = c.mark_byte-2.ensures in
+    let wrote = part-filled c.mark_byte-2.new.s (a.lo / 8 + 1) (a.hi / 8) 255 (omega arith) (omega (arith, first.size)) (c.fill.ensures.after (λ y same. same)) in
     marked_more a.lo (8 * (a.lo / 8 + 1)) (8 * (a.hi / 8)) (omega arith) (omega arith)
     (marked-range a.lo (8 * (a.lo / 8 + 1)) (omega arith) (omega arith) first)
-    (marked-fill (a.lo / 8 + 1) (a.hi / 8) (λ j. omega (arith, c.slice_known-2-1.given j)) (omega arith) (omega (arith, first.size)) c.fill.ensures)
+    (marked-fill (a.lo / 8 + 1) (a.hi / 8) (λ j. omega (arith, c.slice_known-2-1.given j)) (omega arith) (omega (arith, first.size)) wrote)
 
 pub mark_byte-requires-then-hi-ne0 : goal.mark_byte-requires-then-hi-ne0
 mark_byte-requires-then-hi-ne0 c = (omega (arith, (front (goal.at.mark_byte-requires-then-hi-ne0 c).After-fill).size), omega arith, omega arith)

@@ -12,6 +12,6 @@ overflow_sub-ones c = (ones_above c.args.from c.args.to (omega arith) (omega ari
 pub returns : goal.returns
 returns c =
     let a = c.args in
-    let g = c.get64 in
-    marked-word 8 a.j a.from a.to _ g.result (omega arith) (omega arith) (omega arith) g.ensures.result_value
-    (ap (bit_or g.result) (ones_above a.from a.to (omega arith) (omega arith)).1) c.put64.ensures
+    let g = c.get in
+    marked-word 8 a.j a.from a.to _ g.result (omega arith) (omega arith) (omega arith) g.ensures.bytes
+    (ap (bit_or g.result) (ones_above a.from a.to (omega arith) (omega arith)).1) c.put.ensures

@@ -22,8 +22,8 @@ offset_bounds-table-i c = search rules
 pub bounds-table-i : goal.bounds-table-i
 bounds-table-i c = search rules
 
-pub kind_of-kind-requires : goal.kind_of-kind-requires
-kind_of-kind-requires c = search rules
+pub from-kind-requires : goal.from-kind-requires
+from-kind-requires c = search rules
 
 pub overflow_mul-p : goal.overflow_mul-p
 overflow_mul-p c = search rules
@@ -62,7 +62,7 @@ pub first_size-requires : goal.first_size-requires
 first_size-requires c = omega (arith, param-few c.requires.ready c.requires.i_bound.0, count-few c.requires.ready c.requires.i_bound.0, c.runs_kept-q.ensures, runs-few c.requires.ready c.requires.i_bound.0)
 
 pub grow-f-requires : goal.grow-f-requires
-grow-f-requires c = omega (arith, c.bytes_for.ensures, bytes-few _ (count-few c.requires.ready c.requires.i_bound.0), c.requires.i_bound.1, c.grow-a.ensures, grown-few c.args.at c.any_null-null.result c.bytes_for.result, c.first_size.ensures, first-few c.kind_of-kind.result _ _ c.runs_kept-q.result (param-few c.requires.ready c.requires.i_bound.0) (count-few c.requires.ready c.requires.i_bound.0) (omega (arith, c.runs_kept-q.ensures, runs-few c.requires.ready c.requires.i_bound.0)))
+grow-f-requires c = omega (arith, c.bytes_for.ensures, bytes-few _ (count-few c.requires.ready c.requires.i_bound.0), c.requires.i_bound.1, c.grow-a.ensures, grown-few c.args.at c.any_null-null.result c.bytes_for.result, c.first_size.ensures, first-few c.from-kind.result _ _ c.runs_kept-q.result (param-few c.requires.ready c.requires.i_bound.0) (count-few c.requires.ready c.requires.i_bound.0) (omega (arith, c.runs_kept-q.ensures, runs-few c.requires.ready c.requires.i_bound.0)))
 
 pub has_second-requires : goal.has_second-requires
 has_second-requires c = search rules
@@ -71,7 +71,7 @@ pub second_size-requires : goal.second_size-requires
 second_size-requires c = omega (arith, count-few c.requires.ready c.requires.i_bound.0, c.data_length-d.ensures.1, c.requires.ready.sound.shape.small)
 
 pub grow-requires : goal.grow-requires
-grow-requires c = omega (arith, c.bytes_for.ensures, bytes-few _ (count-few c.requires.ready c.requires.i_bound.0), c.requires.i_bound.1, c.grow-a.ensures, grown-few c.args.at c.any_null-null.result c.bytes_for.result, c.first_size.ensures, first-few c.kind_of-kind.result _ _ c.runs_kept-q.result (param-few c.requires.ready c.requires.i_bound.0) (count-few c.requires.ready c.requires.i_bound.0) (omega (arith, c.runs_kept-q.ensures, runs-few c.requires.ready c.requires.i_bound.0)), c.grow-f.ensures, grown-few c.grow-a.result c.has_first.result c.first_size.result, c.second_size.ensures, second-few c.kind_of-kind.result _ c.data_length-d.result (count-few c.requires.ready c.requires.i_bound.0) (omega (arith, c.data_length-d.ensures.1, c.requires.ready.sound.shape.small)))
+grow-requires c = omega (arith, c.bytes_for.ensures, bytes-few _ (count-few c.requires.ready c.requires.i_bound.0), c.requires.i_bound.1, c.grow-a.ensures, grown-few c.args.at c.any_null-null.result c.bytes_for.result, c.first_size.ensures, first-few c.from-kind.result _ _ c.runs_kept-q.result (param-few c.requires.ready c.requires.i_bound.0) (count-few c.requires.ready c.requires.i_bound.0) (omega (arith, c.runs_kept-q.ensures, runs-few c.requires.ready c.requires.i_bound.0)), c.grow-f.ensures, grown-few c.grow-a.result c.has_first.result c.first_size.result, c.second_size.ensures, second-few c.from-kind.result _ c.data_length-d.result (count-few c.requires.ready c.requires.i_bound.0) (omega (arith, c.data_length-d.ensures.1, c.requires.ready.sound.shape.small)))
 
 pub returns : goal.returns
-returns c = (c.grow.ensures ∙ rw (c.has_second.ensures, c.second_size.ensures, c.grow-f.ensures, c.has_first.ensures, c.first_size.ensures, c.grow-a.ensures, c.any_null-null.ensures, c.bytes_for.ensures, c.runs_kept-q.ensures, c.data_length-d.ensures.0, c.kind_of-kind.ensures) (node_end c.requires.ready c.requires.i_bound.0 c.args.at c.requires.i_bound.2), omega (arith, c.bytes_for.ensures, bytes-few _ (count-few c.requires.ready c.requires.i_bound.0), c.grow-a.ensures, grown-few c.args.at c.any_null-null.result c.bytes_for.result, c.first_size.ensures, first-few c.kind_of-kind.result _ _ c.runs_kept-q.result (param-few c.requires.ready c.requires.i_bound.0) (count-few c.requires.ready c.requires.i_bound.0) (omega (arith, c.runs_kept-q.ensures, runs-few c.requires.ready c.requires.i_bound.0)), c.grow-f.ensures, grown-few c.grow-a.result c.has_first.result c.first_size.result, c.second_size.ensures, second-few c.kind_of-kind.result _ c.data_length-d.result (count-few c.requires.ready c.requires.i_bound.0) (omega (arith, c.data_length-d.ensures.1, c.requires.ready.sound.shape.small)), c.grow.ensures, grown-few c.grow-f.result c.has_second.result c.second_size.result))
+returns c = (c.grow.ensures ∙ rw (c.has_second.ensures, c.second_size.ensures, c.grow-f.ensures, c.has_first.ensures, c.first_size.ensures, c.grow-a.ensures, c.any_null-null.ensures, c.bytes_for.ensures, c.runs_kept-q.ensures, c.data_length-d.ensures.0, c.from-kind.ensures) (node_end c.requires.ready c.requires.i_bound.0 c.args.at c.requires.i_bound.2), omega (arith, c.bytes_for.ensures, bytes-few _ (count-few c.requires.ready c.requires.i_bound.0), c.grow-a.ensures, grown-few c.args.at c.any_null-null.result c.bytes_for.result, c.first_size.ensures, first-few c.from-kind.result _ _ c.runs_kept-q.result (param-few c.requires.ready c.requires.i_bound.0) (count-few c.requires.ready c.requires.i_bound.0) (omega (arith, c.runs_kept-q.ensures, runs-few c.requires.ready c.requires.i_bound.0)), c.grow-f.ensures, grown-few c.grow-a.result c.has_first.result c.first_size.result, c.second_size.ensures, second-few c.from-kind.result _ c.data_length-d.result (count-few c.requires.ready c.requires.i_bound.0) (omega (arith, c.data_length-d.ensures.1, c.requires.ready.sound.shape.small)), c.grow.ensures, grown-few c.grow-f.result c.has_second.result c.second_size.result))

@@ -2,7 +2,7 @@
 use mathlib.Core.Path.{refl, sym, ◌∙◌}
 use Rattle.format.specs.Accepted as Accepted
 use Rattle.buffers.specs.Place.{rows_by}
-use Rattle.nodes.specs.Place.{of_views, of_lists32, of_lists64, of_union}
+use Rattle.nodes.specs.Place.{bytes32, bytes64, of_views, of_lists32, of_lists64, of_union}
 use Rattle.buffers.proofs.PutLaws.{puts_none}
 use Rattle.nodes.proofs.BufferLaws.{copies-native, copies-fixed, copies-dictionary, first-struct, first-unknown}
 use Rattle.nodes.proofs.filter_first.Goals as goal
@@ -22,15 +22,15 @@ first_entries-requires-in-Fixed c = let b = c.before.before.before.before.before
     let k = sym b.requires.kinded.is ∙ c.in-Fixed.is in
     record { picked = b.requires.picked; copies = copies-fixed b.requires.picked k; mask_in_bounds = b.requires.mask_in_bounds }
 
-pub first_offsets32-requires : goal.first_offsets32-requires
-first_offsets32-requires c = let b = c.before.before.before.before.before.before.before in
-    let k = sym b.requires.kinded.is ∙ c.in-Bytes32.is in
-    record { picked = b.requires.picked; i_value = k; mask_in_bounds = b.requires.mask_in_bounds }
+pub first_offsets-requires : goal.first_offsets-requires
+first_offsets-requires c =
+    let k = sym c.requires.kinded.is ∙ c.in-Bytes32.is in
+    record { picked = c.requires.picked; column = rw k bytes32; mask_in_bounds = c.requires.mask_in_bounds }
 
-pub first_offsets64-requires : goal.first_offsets64-requires
-first_offsets64-requires c = let b = c.before.before.before.before.before.before.before in
-    let k = sym b.requires.kinded.is ∙ c.in-Bytes64.is in
-    record { picked = b.requires.picked; i_value = k; mask_in_bounds = b.requires.mask_in_bounds }
+pub first_offsets-requires-in-Bytes64 : goal.first_offsets-requires-in-Bytes64
+first_offsets-requires-in-Bytes64 c =
+    let k = sym c.requires.kinded.is ∙ c.in-Bytes64.is in
+    record { picked = c.requires.picked; column = rw k bytes64; mask_in_bounds = c.requires.mask_in_bounds }
 
 pub first_entries-requires-in-Views : goal.first_entries-requires-in-Views
 first_entries-requires-in-Views c = let b = c.before.before.before.before.before.before.before in

@@ -1,20 +1,20 @@
 -- `nodes::filter_second` meets its contract: data, sizes, or nothing. Assumes nothing.
 use mathlib.Core.Path.{refl, sym, ◌∙◌}
 use Rattle.buffers.specs.Place.{rows_by}
-use Rattle.nodes.specs.Place.{sizes32, sizes64}
+use Rattle.nodes.specs.Place.{bytes32, bytes64, sizes32, sizes64}
 use Rattle.buffers.proofs.PutLaws.{puts_none}
 use Rattle.nodes.proofs.BufferLaws.{second-absent, bits, numeric, fixed, views, runs, struct, union, dictionary, nested32, nested64, unknown}
 use Rattle.nodes.proofs.filter_second.Goals as goal
 
-pub second_texts32-requires : goal.second_texts32-requires
-second_texts32-requires c = let b = c.before.before.before.before.before.before in
-    let k = sym b.requires.k_value ∙ c.in-Bytes32.is in
-    record { picked = b.requires.picked; i_value = k; mask_in_bounds = b.requires.mask_in_bounds }
+pub second_texts-requires : goal.second_texts-requires
+second_texts-requires c =
+    let k = sym c.requires.k_value ∙ c.in-Bytes32.is in
+    record { picked = c.requires.picked; column = rw k bytes32; mask_in_bounds = c.requires.mask_in_bounds }
 
-pub second_texts64-requires : goal.second_texts64-requires
-second_texts64-requires c = let b = c.before.before.before.before.before.before in
-    let k = sym b.requires.k_value ∙ c.in-Bytes64.is in
-    record { picked = b.requires.picked; i_value = k; mask_in_bounds = b.requires.mask_in_bounds }
+pub second_texts-requires-in-Bytes64 : goal.second_texts-requires-in-Bytes64
+second_texts-requires-in-Bytes64 c =
+    let k = sym c.requires.k_value ∙ c.in-Bytes64.is in
+    record { picked = c.requires.picked; column = rw k bytes64; mask_in_bounds = c.requires.mask_in_bounds }
 
 pub second_sizes-requires : goal.second_sizes-requires
 second_sizes-requires c = let b = c.before.before.before.before.before.before in

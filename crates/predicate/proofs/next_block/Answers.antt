@@ -31,13 +31,6 @@ in_rows : (c : In-Stored-h) →
     InStep (Rows (Stored c.in-Stored-h.n)) (slot_of s.args.s.now s.args.b) s.args.b.len s.args.list.now s.args.cur
 in_rows c = rw (rows_are c) at c.requires.in_step
 
--- a lazy selection's bits lie in the slice
-lies-runs : (c : In-Lazy) → let s = c.before.before.before.before in Lies s.args.s.now s.args.b
-lies-runs c = rw (c.in-Runs.is ∙ ap Runs c.in-Lazy.is) at c.requires.readable
-
-lies-rows : (c : In-Lazy-h) → let s = c.before.before.before.before in Lies s.args.s.now s.args.b
-lies-rows c = rw (c.in-Rows.is ∙ ap Rows c.in-Lazy-h.is) at c.requires.readable
-
 -- ---- the answers
 pub returns-then-place-n : goal.returns-then-place-n
 returns-then-place-n c =
@@ -111,11 +104,5 @@ overflow_add-result c = omega (arith, two_in (goal.at.overflow_add-result c).The
 pub returns-in-Stored : goal.returns-in-Stored
 returns-in-Stored c = rw (runs-are (goal.at.returns-in-Stored c).In-Stored) (run-over (in-runs (goal.at.returns-in-Stored c).In-Stored) c.if-index-n.false)
 
-pub next_word-requires : goal.next_word-requires
-next_word-requires c = lies-runs c
-
 pub returns-in-Stored-h : goal.returns-in-Stored-h
 returns-in-Stored-h c = rw (rows_are (goal.at.returns-in-Stored-h c).In-Stored-h) (list_over (in_rows (goal.at.returns-in-Stored-h c).In-Stored-h) c.if-index-n-2.false)
-
-pub next_word-requires-in-Lazy-h : goal.next_word-requires-in-Lazy-h
-next_word-requires-in-Lazy-h c = lies-rows c

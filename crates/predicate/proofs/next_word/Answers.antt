@@ -1,7 +1,7 @@
 -- `predicate::next_word` meets its contract. The rows from `place` up to word w are not kept, and x is what is left of that word. Assumes nothing.
 use Rattle.std.proofs.Common.{◌≡◌, ◌+◌, ◌*◌, ◌/◌, ◌%◌, ◌≤◌, sym, ◌∙◌, arith}
 use Rattle.format.proofs.WordLaws.{from-clear}
-use Rattle.slots.specs.Source.{slot_of}
+use Rattle.slots.specs.Slot.{slot_in}
 use Rattle.scan.specs.Asked.{Blank}
 use Rattle.scan.proofs.Blanks.{blank_none}
 use Rattle.scan.proofs.Scan.{Scanned, starts, passed, skips, fresh}
@@ -16,18 +16,18 @@ pub loop-x-init : goal.loop-x-init
 loop-x-init c =
     let a = c.args in
     let at : 64 * (a.place / 64) + a.place % 64 ≡ a.place = omega arith in
-    (omega arith, starts _ _, rw c.word_in.ensures (rw at at (from-clear (slot_of a.s.now a.b) 64 (64 * (a.place / 64)) (a.place % 64) (omega arith))))
+    (omega arith, starts _ _, rw c.word_in.ensures (rw at at (from-clear (slot_in a.source) 64 (64 * (a.place / 64)) (a.place % 64) (omega arith))))
 
 -- no slot is picked in the words passed, one or more
 blank : (c : Joined-w-eq0) →
     let a = c.args in
-    Blank (slot_of a.s.now a.b) (c.loop-x.w + 1) a.b.len c.if-w-eq0.w
+    Blank (slot_in a.source) (c.loop-x.w + 1) a.source.bits.len c.if-w-eq0.w
 blank c = elim (c.if-w-eq0.branch-raw) [ inl v ↦ rw v.w-is v.blank_end-w.ensures | inr v ↦ rw v.w-is (blank_none _ _ _) ]
 
 -- nothing is left of word w, nor of the words passed after it
 over : (c : Joined-w-eq0) →
     let a = c.args in
-    Scanned (slot_of a.s.now a.b) a.place c.if-w-eq0.w a.place a.place
+    Scanned (slot_in a.source) a.place c.if-w-eq0.w a.place a.place
 over c =
     let k = c.before in
     skips (passed k.loop-x.invariant.1 (sym k.loop-x.invariant.2 ∙ k.loop-x-test.true)) (blank c)
@@ -39,7 +39,7 @@ pub loop-x-preserved : goal.loop-x-preserved
 loop-x-preserved c =
     let k = c.before.before.before in
     let a = c.args in
-    (omega arith, over (goal.at.loop-x-preserved c).Joined-w-eq0, c.word_in-x.ensures ∙ fresh (slot_of a.s.now a.b) a.place 64 _ (reached (goal.at.loop-x-preserved c).Joined-w-eq0))
+    (omega arith, over (goal.at.loop-x-preserved c).Joined-w-eq0, c.word_in-x.ensures ∙ fresh (slot_in a.source) a.place 64 _ (reached (goal.at.loop-x-preserved c).Joined-w-eq0))
 
 pub returns-then-len-w-2 : goal.returns-then-len-w-2
 returns-then-len-w-2 c =
@@ -50,7 +50,7 @@ returns-then-len-w-2 c =
 -- the word has some row
 found : (c : After-loop-x) →
     let a = c.args in
-    Found (slot_of a.s.now a.b) a.place c.loop-x.w c.loop-x.x
+    Found (slot_in a.source) a.place c.loop-x.w c.loop-x.x
 found c =
     let f = c.loop-x.invariant.1 in
     record { near = f.near; gap = f.gap; is = c.loop-x.invariant.2; some = omega arith }
@@ -62,7 +62,7 @@ pub returns-then-len-w : goal.returns-then-len-w
 returns-then-len-w c = c.last_block.ensures
 
 pub blank_end-w-requires : goal.blank_end-w-requires
-blank_end-w-requires c = record { lies = c.requires; from_bound = omega arith }
+blank_end-w-requires c = omega arith
 
 pub overflow_mul-w-in-loop-x : goal.overflow_mul-w-in-loop-x
 overflow_mul-w-in-loop-x c = let high = (blank (goal.at.overflow_mul-w-in-loop-x c).Joined-w-eq0).high in omega arith
@@ -74,16 +74,16 @@ pub overflow_mul-w-then-len-w-2 : goal.overflow_mul-w-then-len-w-2
 overflow_mul-w-then-len-w-2 c = let high = (blank (goal.at.overflow_mul-w-then-len-w-2 c).Joined-w-eq0).high in omega arith
 
 pub last_block-requires-then-len-w-2 : goal.last_block-requires-then-len-w-2
-last_block-requires-then-len-w-2 c = record { lies = c.requires; place_lt_len = omega (arith, (blank (goal.at.last_block-requires-then-len-w-2 c).Joined-w-eq0).high) }
+last_block-requires-then-len-w-2 c = omega (arith, (blank (goal.at.last_block-requires-then-len-w-2 c).Joined-w-eq0).high)
 
 pub word_in-x-requires : goal.word_in-x-requires
-word_in-x-requires c = record { lies = c.requires; w_bound = omega arith }
+word_in-x-requires c = omega arith
 
 pub loop-x-smaller : goal.loop-x-smaller
 loop-x-smaller c = let low = (blank (goal.at.loop-x-smaller c).Joined-w-eq0).low in omega arith
 
 pub word_block-requires : goal.word_block-requires
-word_block-requires c = record { lies = c.requires; w_bound = (c.loop-x.invariant.0, found c) }
+word_block-requires c = (c.loop-x.invariant.0, found c)
 
 pub returns : goal.returns
 returns c = c.word_block.ensures

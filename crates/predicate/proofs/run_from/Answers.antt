@@ -3,7 +3,7 @@ use Rattle.std.proofs.Common.{◌≡◌, ◌+◌, ◌-◌, ◌*◌, ◌/◌, ◌
 use lib.Count.{count_trailing_zeros}
 use Rattle.format.proofs.SlotLaws.{all_none}
 use Rattle.format.proofs.WordLaws.{from-clear}
-use Rattle.slots.specs.Source.{slot_of}
+use Rattle.slots.specs.Slot.{slot_in}
 use Rattle.predicate.specs.Blocks.{Found}
 use Rattle.predicate.proofs.WordRuns.{first-row, found-on, found-run, end-near}
 use Rattle.predicate.proofs.run_from.Goals as goal
@@ -12,14 +12,14 @@ use Rattle.predicate.proofs.run_from.Goals.{Else-x-eq0, Else-y-eq0}
 -- what is left of the word has some row
 found : (c : Else-x-eq0) →
     let a = c.args in
-    Found (slot_of a.s.now a.b) a.place (a.place / 64) (c.word_in.result / 2 ^ (a.place % 64) * 2 ^ (a.place % 64) % 2 ^ 64)
+    Found (slot_in a.source) a.place (a.place / 64) (c.word_in.result / 2 ^ (a.place % 64) * 2 ^ (a.place % 64) % 2 ^ 64)
 found c =
     let a = c.args in
     let at : 64 * (a.place / 64) + a.place % 64 ≡ a.place = omega arith in
     record {
       near = omega arith;
       gap = all_none (omega arith);
-      is = rw c.word_in.ensures (rw at at (from-clear (slot_of a.s.now a.b) 64 (64 * (a.place / 64)) (a.place % 64) (omega arith)));
+      is = rw c.word_in.ensures (rw at at (from-clear (slot_in a.source) 64 (64 * (a.place / 64)) (a.place % 64) (omega arith)));
       some = ⊎_elim (λ z. absurd (c.if-x-eq0.false z)) (λ l. l) (eq-zero-or-pos _);
     }
 
@@ -29,7 +29,7 @@ in-word c = let h = (first-row (found c)).inside in omega arith
 pub returns-then-x-eq0 : goal.returns-then-x-eq0
 returns-then-x-eq0 c =
     let a = c.args in
-    let h = c.requires.place_bound in
+    let h = c.requires in
     record { order = le_refl a.place; high = omega arith; run = λ l. absurd (omega arith) }
 
 pub returns-then-y-eq0 : goal.returns-then-y-eq0
@@ -48,10 +48,10 @@ end-in c = end-near (found (goal.at.Else-y-eq0 c).Else-x-eq0) refl c.if-y-eq0.fa
 
 pub returns : goal.returns
 returns c =
-    let h = c.requires.place_bound in
+    let h = c.requires in
     let near = end-in c in
     let a = c.args in
-    let r = found-run (found (goal.at.returns c).Else-x-eq0) refl c.if-y-eq0.false {len = a.b.len} (omega arith) in
+    let r = found-run (found (goal.at.returns c).Else-x-eq0) refl c.if-y-eq0.false {len = a.source.bits.len} (omega arith) in
     let some = r.some in
     record { order = omega arith; high = r.high; run = λ _. r }
 

@@ -1,7 +1,13 @@
 -- `prepare::prepare` meets its contract: the mask's own slip, or the answer of an accepted one. Assumes nothing.
-use native.Mathlib.Omega.{arith}
+use Rattle.std.proofs.lemmas.Result.{err_from_is_err_and}
+use Rattle.format.proofs.Reasons.{own_answer-ok}
 use Rattle.prepare.proofs.Slips.{unaccepted}
 use Rattle.prepare.proofs.prepare.Goals as goal
 
-pub returns-then-number-ne0 : goal.returns-then-number-ne0
-returns-then-number-ne0 c = unaccepted _ _ _ _ _ c.check_mask-number.ensures (omega arith)
+pub returns-in_err-accept_mask : goal.returns-in_err-accept_mask
+returns-in_err-accept_mask c =
+    let p = err_from_is_err_and c.from_residual.result c.from_residual.ensures.1 in
+    rw (p.1, p.2) (unaccepted _ _ _ _ c.in_err-accept_mask.ensures)
+
+pub prepare_accepted-requires : goal.prepare_accepted-requires
+prepare_accepted-requires c = own_answer-ok _ _ c.in_ok-accept_mask.ensures

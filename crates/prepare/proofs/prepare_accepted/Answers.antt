@@ -6,8 +6,8 @@ use Rattle.prepare.proofs.Slips.{listed, miscounted}
 use Rattle.prepare.proofs.prepare_accepted.Goals as goal
 use Rattle.prepare.proofs.prepare_accepted.Goals.{After-count-kept}
 
-pub count-kept-requires : goal.count-kept-requires
-count-kept-requires c = rw c.mask_bits-b.ensures (mask-lies _ c.requires)
+pub invariant_of-source : goal.invariant_of-source
+invariant_of-source c = record { lies = rw c.mask_bits-b.ensures (mask-lies _ c.requires) }
 
 -- what was counted is the mask's count
 counts : (c : After-count-kept) → Counted c.args.mask.now c.mask_bits-b.result c.count-kept.result
@@ -18,7 +18,7 @@ counts c =
 pub returns-then-wrong_count : goal.returns-then-wrong_count
 returns-then-wrong_count c =
     let k = c.before.before in
-    miscounted _ _ _ _ (counts (goal.at.returns-then-wrong_count c).After-count-kept).accepted (rw (← (counts (goal.at.returns-then-wrong_count c).After-count-kept).counted) (sym c.wrong_count.ensures ∙ c.if-wrong_count.true))
+    rw c.new.ensures (miscounted _ _ _ _ (counts (goal.at.returns-then-wrong_count c).After-count-kept).accepted (rw (← (counts (goal.at.returns-then-wrong_count c).After-count-kept).counted) (sym c.wrong_count.ensures ∙ c.if-wrong_count.true)))
 
 pub prepare_list-requires : goal.prepare_list-requires
 prepare_list-requires c = counts (goal.at.prepare_list-requires c).After-count-kept

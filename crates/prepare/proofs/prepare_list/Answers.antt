@@ -10,6 +10,9 @@ use Rattle.prepare.proofs.Slips.{kept-is, lies, few-slots, few-kept, entries-are
 use Rattle.prepare.proofs.prepare_list.Goals as goal
 use Rattle.prepare.proofs.prepare_list.Goals.{After-default_strategy-route, After-list_entries}
 
+pub invariant_of-source : goal.invariant_of-source
+invariant_of-source c = record { lies = lies c.requires }
+
 pub default_strategy-route-requires : goal.default_strategy-route-requires
 default_strategy-route-requires c = (few-slots c.requires, few-kept c.requires)
 
@@ -19,7 +22,7 @@ returns-then-not-asked c = unasked _ _ _ (not-true _ c.if-not-asked.true-raw) (r
 pub list_entries-requires : goal.list_entries-requires
 list_entries-requires c = let p = c.requires in
     let few = few-slots p in
-    record { lies = lies p; len_bound = (omega arith, kept-is p) }
+    (omega arith, kept-is p)
 
 -- the entries are those of the mask's list
 all_of : (c : After-default_strategy-route) →
@@ -32,12 +35,12 @@ many : (c : After-list_entries) → c.list_entries.result ≡ length (entries c.
 many c = c.list_entries.ensures ∙ ap length (all_of (goal.at.After-list_entries c).After-default_strategy-route)
 
 pub returns-then-list-list_entries : goal.returns-then-list-list_entries
-returns-then-list-list_entries c = short _ _ _ (not-false _ c.if-not-asked.false-raw) (rw (← many (goal.at.returns-then-list-list_entries c).After-list_entries) c.if-list-list_entries.true)
+returns-then-list-list_entries c = rw c.new.ensures (short _ _ _ (not-false _ c.if-not-asked.false-raw) (rw (← many (goal.at.returns-then-list-list_entries c).After-list_entries) c.if-list-list_entries.true))
 
 pub store_list-requires : goal.store_list-requires
 store_list-requires c = let p = c.requires in
     let few = few-slots p in
-    record { lies = lies p; len_bound = (omega arith, rw (← c.list_entries.ensures) c.if-list-list_entries.false) }
+    (omega arith, rw (← c.list_entries.ensures) c.if-list-list_entries.false)
 
 pub returns : goal.returns
 returns c =

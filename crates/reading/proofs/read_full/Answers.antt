@@ -6,7 +6,6 @@ use Rattle.std.proofs.KnownBytes.{Consumes-trans}
 use borrow.Rule.Slice.PartMut.{put_mid, post_of}
 use lib.Seq.{take-add, take-append-le}
 use Rattle.reading.proofs.read_full.Goals as goal
-use Rattle.reading.proofs.read_full.Goals.{in-Ok, in-Err}
 
 take_split : (a b : ℕ) (old new : List ℕ) → a ≤ b → take a new ≡ take a old → take a old ++ slice_range new a b ≡ take b new
 take_split a b old new h front =
@@ -22,15 +21,11 @@ slice_range-put_mid a k n xs ys within fits =
 pub loop-done-preserved : goal.loop-done-preserved
 loop-done-preserved g c =
     let from = c.loop-done.done in
+    let more = c.in-Ok.more in
     let room = length c.loop-done.into - from in
     let within = c.loop-done.invariant.1 in
-    elim c.match-read.branch [
-      | in-Ok w ↦
-          let told = w.in-Ok.ensures in
-          let fits : c.match-read.more ≤ length c.read.new.buf = omega (arith, told.bound.0, w.more-is) in
-          let given = subst (λ k. Consumes (g.R.Read.remaining c.loop-done.input) (g.R.Read.remaining c.read.new.self) (take k c.read.new.buf)) (sym w.more-is) told.bytes.0 in
-          let part = slice_range-put_mid from room c.match-read.more c.loop-done.into c.read.new.buf within fits in
-          let joined = take_split from (from + c.match-read.more) c.loop-done.into (put_mid from room c.loop-done.into c.read.new.buf) (omega arith) (take-put_mid_below _ _ _ _ _ (le_refl _) within) in
-          (search rules, search rules, search rules, subst (Consumes _ _) (ap (λ l. take from c.loop-done.into ++ l) (sym part) ∙ joined) (Consumes-trans _ _ _ _ _ c.loop-done.invariant.3 given))
-      | in-Err w ↦ absurd (c.if-more-eq0.false w.more-is)
-    ]
+    let told = c.in-Ok.ensures in
+    let fits : more ≤ length c.read.new.buf = told.bound.0 in
+    let part = slice_range-put_mid from room more c.loop-done.into c.read.new.buf within fits in
+    let joined = take_split from (from + more) c.loop-done.into (put_mid from room c.loop-done.into c.read.new.buf) (omega arith) (take-put_mid_below _ _ _ _ _ (le_refl _) within) in
+    (search rules, search rules, search rules, subst (Consumes _ _) (ap (λ l. take from c.loop-done.into ++ l) (sym part) ∙ joined) (Consumes-trans _ _ _ _ _ c.loop-done.invariant.3 told.bytes.0))

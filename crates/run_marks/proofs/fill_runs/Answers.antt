@@ -10,7 +10,7 @@ use Rattle.nesting.proofs.RunEdges.{few, runs-are, runs-small, edge-first}
 use Rattle.run_marks.proofs.Packing.{rows_all, byte-room, byte-stored, bytes-done}
 use Rattle.run_marks.proofs.RunBits.{runs-few}
 use Rattle.run_marks.proofs.fill_runs.Goals as goal
-use Rattle.run_marks.proofs.fill_runs.Goals.{After-standing-source}
+use Rattle.run_marks.proofs.fill_runs.Goals.{After-standing}
 
 pub overflow_mul-len : goal.overflow_mul-len
 overflow_mul-len c = omega (arith, few c.requires.at_runs)
@@ -42,22 +42,22 @@ slice_bounds-standing-end c = omega (arith, kept c.loop-r.invariant.5, c.require
 pub slice_bounds-standing-end-in-loop-r : goal.slice_bounds-standing-end-in-loop-r
 slice_bounds-standing-end-in-loop-r c = sym (length-take-le c.args.at _ (omega (arith, kept c.loop-r.invariant.5, c.requires.i_in_bounds)))
 
-pub standing-source-requires : goal.standing-source-requires
-standing-source-requires c = tt
-
 -- the source is as it was at first
-stands : (c : After-standing-source) →
+stands : (c : After-standing) →
     let a = c.args in
-    c.standing-source.result.now ≡ cond a.in_mask a.mask.now (take a.at a.scratch.now)
+    c.standing.result.now ≡ cond a.in_mask a.mask.now (take a.at a.scratch.now)
 stands c =
     let a = c.args in
-    c.standing-source.ensures ∙ ap (cond a.in_mask a.mask.now) c.loop-r.invariant.4
+    c.standing.ensures ∙ ap (cond a.in_mask a.mask.now) c.loop-r.invariant.4
+
+pub invariant_of-source : goal.invariant_of-source
+invariant_of-source c = record { lies = rw (stands c) c.requires.lies }
 
 pub runs_byte-g-requires : goal.runs_byte-g-requires
 runs_byte-g-requires c = let q = c.requires in
     let l = c.loop-r in
     let next = c.least-next in
-    record { lies = rw (stands c) q.lies; at_runs = q.at_runs; from_le_to = (omega (arith, next.ensures), omega (arith, next.ensures), omega (arith, next.ensures), l.invariant.2) }
+    record { at_runs = q.at_runs; from_le_to = (omega (arith, next.ensures), omega (arith, next.ensures), omega (arith, next.ensures), l.invariant.2) }
 
 pub bounds-scratch-place : goal.bounds-scratch-place
 bounds-scratch-place c =
@@ -79,7 +79,7 @@ loop-r-preserved c =
     let l = c.loop-r in
     let next = c.least-next in
     let byte = c.runs_byte-g in
-    (l.invariant.0, omega (arith, next.ensures), byte.ensures.next_value, omega arith, take-set-le c.args.at l.scratch l.place _ l.invariant.3 ∙ l.invariant.4, byte-stored _ _ l.r l.invariant.5 next.result (omega arith) next.ensures byte.result.byte (rw (stands (goal.at.loop-r-preserved c).After-standing-source) at byte.ensures.byte_value))
+    (l.invariant.0, omega (arith, next.ensures), byte.ensures.next_value, omega arith, take-set-le c.args.at l.scratch l.place _ l.invariant.3 ∙ l.invariant.4, byte-stored _ _ l.r l.invariant.5 next.result (omega arith) next.ensures byte.result.byte (rw (stands (goal.at.loop-r-preserved c).After-standing) at byte.ensures.byte_value))
 
 pub shape_of-scratch : goal.shape_of-scratch
 shape_of-scratch c = kept c.loop-r.invariant.5

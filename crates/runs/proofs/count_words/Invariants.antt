@@ -1,13 +1,10 @@
--- What the loops of `count_words` keep, and their measures. Assumes nothing.
-use Prim.Native.Nat.{◌+◌, ◌≤◌, ◌-◌}
+-- What the loop of `count_words` keeps: n counts the picks of the words passed. Assumes nothing.
+use Prim.Native.Nat.{◌*◌, ◌≤◌}
 use mathlib.Core.Path.{◌≡◌}
 use lib.ListN.{length}
 use Rattle.format.specs.Slots.{picks_from}
-use Rattle.slots.specs.Source.{slot_of}
+use Rattle.slots.specs.Slot.{slot_in}
 use Rattle.runs.proofs.count_words.Given as goal
 
-abbrev pub invariant-loop-i : goal.invariant-loop-i
-invariant-loop-i l = (l.lo ≤ l.i) × (l.i ≤ l.hi) × (l.n + l.lo ≤ l.i) × (l.n ≡ length (picks_from (slot_of l.s l.b) (l.i - l.lo) l.lo))
-
-abbrev pub decreases-loop-i : goal.decreases-loop-i
-decreases-loop-i l = l.hi - l.i
+abbrev pub invariant-loop-w : goal.invariant-loop-w
+invariant-loop-w l = (l.n ≤ 64 * l.w) × (l.n ≡ length (picks_from (slot_in l.source) (64 * l.w) l.lo))

@@ -7,6 +7,7 @@ use Rattle.format.specs.Slots.{picks_from}
 use Rattle.format.proofs.Put.{same_size}
 use Rattle.format.proofs.SlotLaws.{count-le}
 use Rattle.predicate.specs.Selection.{kept_by}
+use Rattle.words.proofs.Widths.{wider}
 use Rattle.runs.specs.Groups.{end_at, start_at, size_at}
 use Rattle.runs.proofs.GroupLaws.{start_first, start-next, end-inside, size-picks, range-order, grouped-none, grouped-miss, grouped-hit, grouped-room}
 use Rattle.runs.proofs.ends_kept.Goals as goal
@@ -31,7 +32,7 @@ ending : (c : After-clipped-hi) →
 unfolding end_at
 ending c =
     let a = c.args in
-    c.clipped-hi.ensures ∙ ap (λ (e : ℕ). min (e - a.skip) a.b.len) c.number-end.ensures
+    c.clipped-hi.ensures ∙ ap (λ (e : ℕ). min (e - a.skip) a.b.len) c.read_number-end.ensures
 
 -- it does not end before it starts
 order : (c : After-clipped-hi) → c.loop-j.lo ≤ c.clipped-hi.result
@@ -64,18 +65,18 @@ below c =
     let i = c.loop-j.invariant in
     omega (arith, few c, order (goal.at.After-count_kept-size c).After-clipped-hi, i.1)
 
-pub put_end-here-requires : goal.put_end-here-requires
-put_end-here-requires c = let k = c.before.before in
+pub put_number-here-requires : goal.put_number-here-requires
+put_number-here-requires c = let k = c.before.before in
     let l = k.before.before.before.before in
     let pre = l.requires in
-    record { width_value = pre.ends_lie.width; width_in_bounds = grouped-room l.loop-j.invariant.3 (sized (goal.at.put_end-here-requires c).After-count_kept-size) c.if-size-gt0.true _ k.loop-j-test.true pre.n_in_bounds }
+    record { is_width = wider _ pre.ends_lie.width; inside = grouped-room l.loop-j.invariant.3 (sized (goal.at.put_number-here-requires c).After-count_kept-size) c.if-size-gt0.true _ k.loop-j-test.true pre.n_in_bounds }
 
 pub loop-j-preserved-then-size-gt0 : goal.loop-j-preserved-then-size-gt0
 loop-j-preserved-then-size-gt0 c =
     let k = c.before.before.before.before.before in
     let l = k.before.before.before.before in
     let t = k.loop-j-test.true in
-    (omega arith, below (goal.at.loop-j-preserved-then-size-gt0 c).After-count_kept-size, starting (goal.at.loop-j-preserved-then-size-gt0 c).After-clipped-hi, grouped-hit l.loop-j.invariant.3 (sized (goal.at.loop-j-preserved-then-size-gt0 c).After-count_kept-size) c.if-size-gt0.true c.put_end-here.ensures)
+    (omega arith, below (goal.at.loop-j-preserved-then-size-gt0 c).After-count_kept-size, starting (goal.at.loop-j-preserved-then-size-gt0 c).After-clipped-hi, grouped-hit l.loop-j.invariant.3 (sized (goal.at.loop-j-preserved-then-size-gt0 c).After-count_kept-size) c.if-size-gt0.true c.put_number-here.ensures)
 
 pub loop-j-preserved : goal.loop-j-preserved
 loop-j-preserved c =
@@ -96,8 +97,8 @@ overflow_mul-width c = omega (arith, inside c)
 pub overflow_add-first : goal.overflow_add-first
 overflow_add-first c = omega (arith, inside c)
 
-pub number-end-requires : goal.number-end-requires
-number-end-requires c = record { width_value = c.requires.ends_lie.width; width_in_bounds = inside c }
+pub read_number-end-requires : goal.read_number-end-requires
+read_number-end-requires c = record { is_width = wider _ c.requires.ends_lie.width; inside = inside c }
 
 pub clipped-hi-requires : goal.clipped-hi-requires
 clipped-hi-requires c = tt

@@ -3,5 +3,5 @@ use Rattle.std.proofs.Common.{arith}
 use Rattle.scan.proofs.Asked.{word-any}
 use Rattle.scan.proofs.any_within.Goals as goal
 
-pub returns-then-lo-len : goal.returns-then-lo-len
-returns-then-lo-len c = word-any _ _ _ _ (omega arith) c.window_in.ensures
+pub returns-then-hi-lo : goal.returns-then-hi-lo
+returns-then-hi-lo c = word-any _ _ _ _ (omega arith) c.window57_in.ensures

@@ -5,15 +5,9 @@ use Rattle.scan.proofs.blank_end.Goals as goal
 
 pub loop-w-preserved : goal.loop-w-preserved
 loop-w-preserved c =
-    let read = c.before in
-    let start = read.before.before.before.before.before.before.before.before in
-    blank-on _ _ start.loop-w.invariant _ _ (omega arith) (omega arith) (omega arith)
-    (bytes-blank _ (λ i. omega (arith, start.shared_slice_known-1.given i)) _
-    read.get64.ensures.value
-    read.get64-in-loop-w.ensures.value
-    read.get64-in-loop-w-2.ensures.value
-    read.get64-in-loop-w-3.ensures.value
-    read.get64-in-loop-w-4.ensures.value
+    let h = c.loop-w.invariant in
+    blank-on _ _ h _ _ (omega arith) (omega arith) (omega arith)
+    (bytes-blank _ _ c.load_in.ensures c.load_in-in-loop-w.ensures c.load_in-in-loop-w-2.ensures c.load_in-in-loop-w-3.ensures c.load_in-in-loop-w-4.ensures
     c.if-low-high-ne0.false)
 
 pub loop-w-init : goal.loop-w-init

@@ -1,11 +1,7 @@
--- What the loops of `ones_end` keep, and their measures. Assumes nothing.
-use Rattle.std.proofs.Common.{◌-◌, ◌*◌}
-use Rattle.slots.specs.Source.{slot_of}
+-- What the loop of `ones_end` keeps: each word passed is of ones. Assumes nothing.
+use Rattle.slots.specs.Slot.{slot_in}
 use Rattle.scan.specs.Asked.{Ones}
 use Rattle.scan.proofs.ones_end.Given as goal
 
 abbrev pub invariant-loop-w : goal.invariant-loop-w
-invariant-loop-w l = Ones (slot_of l.s l.b) l.from l.len l.w
-
-abbrev pub decreases-loop-w : goal.decreases-loop-w
-decreases-loop-w l = l.len - 64 * l.w
+invariant-loop-w l = Ones (slot_in l.source) l.from l.source.bits.len l.w

@@ -2,8 +2,11 @@
 use Rattle.select.proofs.Selecting.{mask-lies, few-slots, list-fits, selected-stored, selected-lazy}
 use Rattle.select.proofs.select.Goals as goal
 
+pub invariant_of-source : goal.invariant_of-source
+invariant_of-source c = record { lies = mask-lies c.requires }
+
 pub store_list-n-requires : goal.store_list-n-requires
-store_list-n-requires c = let p = c.requires in record { lies = mask-lies p; len_bound = (few-slots p, list-fits p c.if-asked.true) }
+store_list-n-requires c = let p = c.requires in (few-slots p, list-fits p c.if-asked.true)
 
 pub returns-then-asked : goal.returns-then-asked
 returns-then-asked c = selected-stored c.requires c.if-asked.true c.store_list-n.ensures c.selection_of.ensures

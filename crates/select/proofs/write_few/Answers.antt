@@ -8,7 +8,7 @@ use Rattle.select.proofs.write_few.Goals as goal
 pub store_list-n-requires : goal.store_list-n-requires
 store_list-n-requires c = let p = c.requires in
     let s = p.ready.sound in
-    record { lies = p.lies.0; len_bound = (omega (arith, p.lies.1, rows-small s 0 s.shape.some), rows_fit _ _ p.lies.2) }
+    (omega (arith, p.lies.1, rows-small s 0 s.shape.some), rows_fit _ _ p.lies.2)
 
 pub fill_and_write-requires : goal.fill_and_write-requires
 fill_and_write-requires c = let p = c.requires in

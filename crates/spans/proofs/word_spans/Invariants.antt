@@ -1,14 +1,11 @@
--- What the loops of `word_spans` keep, and their measures. Assumes nothing.
-use Prim.Native.Nat.{◌+◌}
-use mathlib.Core.Path.{◌≡◌}
+-- What the loop of `word_spans` keeps: of all rows' spans, `n` lacks those of the rows that are left. Assumes nothing.
+use Rattle.std.proofs.Common.{◌≡◌, ◌+◌}
 use Rattle.format.specs.Rows.{set_rows}
 use Rattle.spans.specs.Spans.{offset_from, spans, Rising}
 use Rattle.spans.proofs.word_spans.Given as goal
 
-abbrev pub invariant-loop-rest : goal.invariant-loop-rest
-invariant-loop-rest l =
-    Rising l.w l.journal l.first (set_rows l.base l.rest)
-    × (l.n + spans (offset_from l.w l.journal l.first) (set_rows l.base l.rest) ≡ spans (offset_from l.w l.journal l.first) (set_rows l.base l.word))
-
-abbrev pub decreases-loop-rest : goal.decreases-loop-rest
-decreases-loop-rest l = l.rest
+abbrev pub invariant-loop-from : goal.invariant-loop-from
+invariant-loop-from l =
+    let it = l.from-iterator in
+    Rising l.w l.journal l.first (set_rows it.base it.rest)
+    × (l.n + spans (offset_from l.w l.journal l.first) (set_rows it.base it.rest) ≡ spans (offset_from l.w l.journal l.first) (set_rows l.base l.word))

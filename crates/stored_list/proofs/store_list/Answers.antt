@@ -1,22 +1,18 @@
 -- `stored_list::store_list` meets its contract: a route's entries by its own writer; none and all store no entry. Assumes nothing.
 use Rattle.std.proofs.Common.{refl}
 use Rattle.format.proofs.Put.{none}
+use mathlib.Core.Logic.{inl, inr}
 use Rattle.stored_list.proofs.store_list.Goals as goal
 
 -- the entries fit the list
 pub store_runs-requires : goal.store_runs-requires
-store_runs-requires c = let s = c.before.before.before.before in
-    record { lies = s.requires.lies; len_bound = (s.requires.len_bound.0, rw c.in-Slices.is at s.requires.len_bound.1) }
+store_runs-requires c = (c.requires.0, rw c.in-Slices.is at c.requires.1)
 
 pub store_rows-requires : goal.store_rows-requires
-store_rows-requires c = let s = c.before.before.before.before in
-    record { lies = s.requires.lies; len_bound = (s.requires.len_bound.0, rw c.in-Indices.is at s.requires.len_bound.1) }
+store_rows-requires c = (c.requires.0, rw c.in-Indices.is at c.requires.1)
 
 pub returns-in-None : goal.returns-in-None
-returns-in-None c = rw c.in-None.is (none refl refl)
-
-pub returns-in-All : goal.returns-in-All
-returns-in-All c = rw c.in-All.is (none refl refl)
+returns-in-None c = elim c.in-None.is [ inl e ↦ rw e (none refl refl) | inr e ↦ rw e (none refl refl) ]
 
 pub returns-in-Slices : goal.returns-in-Slices
 returns-in-Slices c = rw c.in-Slices.is c.store_runs.ensures

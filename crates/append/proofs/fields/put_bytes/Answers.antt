@@ -1,22 +1,15 @@
--- `append::fields::put_bytes` meets its contract. What is left to write is `left` in the bytes that are left. Assumes nothing.
-use native.Mathlib.Omega.{arith}
-use borrow.Author.Rules.{rules}
+-- `append::fields::put_bytes` meets its contract. A turn writes the lowest byte of what is left. Assumes nothing.
+use Rattle.std.proofs.Common.{ap, arith}
+use Rattle.format.specs.Bytes.{to_le}
 use Rattle.format.proofs.Numbers.{to_le-none, to_le-more}
-use Rattle.append.proofs.CellLaws.{to_le-same}
-use Rattle.format.proofs.Put.{whole, stored, done, kept}
+use Rattle.format.proofs.Put.{whole, stored, done}
 use Rattle.append.proofs.fields.put_bytes.Goals as goal
 
 pub loop-i-init : goal.loop-i-init
-loop-i-init c = (search rules, whole (omega arith) (to_le-same _ _ _ (omega arith)))
-
-pub bounds-out-at : goal.bounds-out-at
-bounds-out-at c = omega (arith, kept c.loop-i.invariant.1)
+loop-i-init c = whole (omega arith) (ap (λ n. to_le n c.args.x) (omega arith))
 
 pub loop-i-preserved : goal.loop-i-preserved
-loop-i-preserved c = (search rules, stored c.loop-i.invariant.1 (to_le-more _ _ _ (omega arith)) (omega arith))
-
-pub shape_of-out : goal.shape_of-out
-shape_of-out c = kept c.loop-i.invariant.1
+loop-i-preserved c = stored c.loop-i.invariant (to_le-more _ _ _ (omega arith)) (omega arith)
 
 pub returns : goal.returns
-returns c = done c.loop-i.invariant.1 (to_le-none _ _ (omega arith)) (omega arith)
+returns c = done c.loop-i.invariant (to_le-none _ _ (omega arith)) (omega arith)

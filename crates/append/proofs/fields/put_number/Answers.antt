@@ -1,16 +1,15 @@
 -- `append::fields::put_number` meets its contract: of a number only the bytes that fit are written. Assumes nothing.
-use mathlib.Core.Path.{◌∙◌}
-use native.Mathlib.Omega.{arith}
-use Rattle.format.proofs.Put.{named}
+use Rattle.std.proofs.Common.{ap, ◌∙◌}
+use Rattle.format.specs.Bytes.{to_le}
 use Rattle.format.proofs.Numbers.{to_le-mod}
-use Rattle.append.proofs.CellLaws.{to_le-same}
+use Rattle.format.proofs.Put.{named}
 use Rattle.append.proofs.fields.put_number.Goals as goal
 
-pub returns-then-width-eq4 : goal.returns-then-width-eq4
-returns-then-width-eq4 c = named c.put32.ensures (to_le-mod 4 _ ∙ to_le-same 4 _ _ (omega arith))
+pub returns-in-2 : goal.returns-in-2
+returns-in-2 c = rw c.in-2.is (named c.put.ensures (ap (to_le 2) c.low.ensures ∙ to_le-mod 2 _))
 
-pub returns-then-width-eq8 : goal.returns-then-width-eq8
-returns-then-width-eq8 c = named c.put64.ensures (to_le-same 8 _ _ (omega arith))
+pub returns-in-4 : goal.returns-in-4
+returns-in-4 c = rw c.in-4.is (named c.put-in-4.ensures (ap (to_le 4) c.low-in-4.ensures ∙ to_le-mod 4 _))
 
-pub returns-then-width-eq2 : goal.returns-then-width-eq2
-returns-then-width-eq2 c = named c.put16.ensures (to_le-mod 2 _ ∙ to_le-same 2 _ _ (omega arith))
+pub returns-in-8 : goal.returns-in-8
+returns-in-8 c = rw c.in-8.is c.put-in-8.ensures

@@ -1,22 +1,18 @@
--- `append::fields::put_zeros` meets its contract. What is left to write are as many zeros as places up to the end. Assumes nothing.
-use Rattle.append.proofs.CellLaws.{zeros-same, zeros-none, zeros-more}
-use mathlib.Core.Path.{refl}
-use native.Mathlib.Omega.{arith}
-use borrow.Author.Rules.{rules}
-use Rattle.format.proofs.Put.{whole, stored, done, kept}
+-- `append::fields::put_zeros` meets its contract: a part filled with zeros. Assumes nothing.
+use Rattle.std.proofs.Common.{◌≡◌, ◌+◌, ◌-◌, length, take, drop, ap, sym, ◌∙◌, length-take, length-drop, arith}
+use borrow.Rule.Slice.PartMut.{put_mid}
+use Rattle.format.proofs.Put.{put-part}
+use Rattle.append.specs.Cells.{zeros}
+use Rattle.append.proofs.CellLaws.{length-zeros}
 use Rattle.append.proofs.fields.put_zeros.Goals as goal
 
-pub loop-i-init : goal.loop-i-init
-loop-i-init c = (search rules, whole refl (zeros-same _ _ (omega arith)))
-
-pub bounds-out-i : goal.bounds-out-i
-bounds-out-i c = omega (arith, kept c.loop-i.invariant.1)
-
-pub loop-i-preserved : goal.loop-i-preserved
-loop-i-preserved c = (search rules, stored c.loop-i.invariant.1 (zeros-more _ _ (omega arith)) refl)
-
-pub shape_of-out : goal.shape_of-out
-shape_of-out c = kept c.loop-i.invariant.1
-
 pub returns : goal.returns
-returns c = done c.loop-i.invariant.1 (zeros-none _ (omega arith)) (omega arith)
+unfolding zeros
+returns c =
+    let a = c.args in
+    let part : length (take (a.at + a.n - a.at) (drop a.at a.out.now)) ≡ a.n = simp (length-take, length-drop) (omega (arith, c.requires)) in
+    let filled : c.fill.new.self ≡ zeros a.n = c.fill.ensures.after (λ y e. e) ∙ ap zeros part in
+    record {
+      bytes = ap (put_mid a.at (a.at + a.n - a.at) a.out.now) filled ∙ put-part _ _ _ _ (omega arith) c.requires (length-zeros a.n ∙ omega arith);
+      place = ap (a.at +◌) (sym (length-zeros a.n));
+    }

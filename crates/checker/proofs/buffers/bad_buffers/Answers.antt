@@ -13,4 +13,4 @@ second_size-second-requires c = let r = c.before.before.before.before.before.bef
 
 pub returns : goal.returns
 unfolding bad_buffers places bytes_for has_no_bitmap kind
-returns c = let s = c.before.before.before.before in let t = s.before.before.before.before.before in rw (s.first_size-first.ensures.0, s.second_size-second.ensures.0, s.child_rows.ensures, t.table_start-end.ensures, t.kind_of-kind.ensures, t.node_at-n.ensures)
+returns c = let s = c.before.before.before.before in let t = s.before.before.before.before.before in rw (s.first_size-first.ensures.0, s.second_size-second.ensures.0, s.child_rows.ensures, t.table_start-end.ensures, t.from-kind.ensures, t.node_at-n.ensures)

@@ -1,17 +1,16 @@
--- `checker::buffers::wrong_buffers` meets its contract: bad gathers the nodes below i. Assumes nothing.
-use borrow.Author.Rules.{rules}
-use mathlib.Core.Path.{◌∙◌, ap, refl}
-use Rattle.content.proofs.Fold.{any-end, any-more, any-start}
+-- `checker::buffers::wrong_buffers` meets its contract: it asks each node in turn. Assumes nothing.
+use Rattle.std.proofs.Common.{rules, arith, refl, ap, ◌∙◌}
+use Rattle.std.proofs.lemmas.Iterator.{YieldsList-from_range}
+use Rattle.std.proofs.lemmas.Iterator.Search.{any_from_yields_List}
 use Rattle.format.specs.Bytes.{any_below}
-use Rattle.format.specs.Verdict.{wrong_buffers}
+use Rattle.format.specs.Verdict.{bad_buffers, wrong_buffers}
+use Rattle.checker.proofs.Ranges.{any-all}
 use Rattle.checker.proofs.buffers.wrong_buffers.Goals as goal
-
-pub loop-i-init : goal.loop-i-init
-loop-i-init c = (search rules, any-start _)
-
-pub loop-i-preserved : goal.loop-i-preserved
-loop-i-preserved c = (search rules, any-more _ _ _ c.loop-i.invariant.1 c.bad_buffers-bad.ensures refl)
 
 pub returns : goal.returns
 unfolding wrong_buffers
-returns c = any-end _ _ _ c.loop-i.invariant.0 c.loop-i-test.false c.loop-i.invariant.1 ∙ ap (any_below _) c.node_count-n.ensures
+returns c =
+    let b = c.args.pack.now in
+    let n = c.node_count.result in
+    any_from_yields_List (λ i. bad_buffers b i) _ _ _ c.any.ensures.ran (YieldsList-from_range 0 n n refl (omega arith)) (λ x r q k. search rules)
+    ∙ any-all _ _ ∙ ap (any_below _) c.node_count.ensures

@@ -1,25 +1,21 @@
--- `checker::nulls::wrong_nulls` meets its contract: bad gathers the nodes below i. Assumes nothing.
-use borrow.Author.Rules.{rules}
-use mathlib.Core.Path.{◌∙◌, ap, refl}
-use Rattle.content.proofs.Fold.{any-end, any-more, any-start}
+-- `checker::nulls::wrong_nulls` meets its contract: it asks each node in turn, where the pack carries counts. Assumes nothing.
+use Rattle.std.proofs.Common.{rules, arith, refl, ap, ◌∙◌, eqb, not}
+use Rattle.std.proofs.lemmas.Iterator.{YieldsList-from_range}
+use Rattle.std.proofs.lemmas.Iterator.Search.{any_from_yields_List}
 use Rattle.format.specs.Bytes.{any_below}
+use Rattle.format.specs.Node.{last_field, null_count}
 use Rattle.format.specs.Verdict.{wrong_nulls}
-use Rattle.checker.proofs.Counts.{no-counts, with-counts}
+use Rattle.checker.proofs.Ranges.{any-all}
 use Rattle.checker.proofs.nulls.wrong_nulls.Goals as goal
 
-pub returns-then-not-carries_counts : goal.returns-then-not-carries_counts
+pub returns-then-carries_counts : goal.returns-then-carries_counts
 unfolding wrong_nulls
-returns-then-not-carries_counts c = no-counts _ _ _ c.if-not-carries_counts.true-raw c.carries_counts.ensures
+returns-then-carries_counts c =
+    let b = c.args.pack.now in
+    let n = c.node_count.result in
+    let all = any_from_yields_List (λ i. not (eqb (last_field b i) (null_count b i))) _ _ _ c.any.ensures.ran (YieldsList-from_range 0 n n refl (omega arith)) (λ x r q k. search rules) in
+    rw (← c.carries_counts.ensures, c.if-carries_counts.true) (all ∙ any-all _ _ ∙ ap (any_below _) c.node_count.ensures)
 
-pub loop-i-init : goal.loop-i-init
-loop-i-init c = (search rules, any-start _)
-
-pub loop-i-preserved : goal.loop-i-preserved
-loop-i-preserved c = (search rules, any-more _ _ _ c.loop-i.invariant.1 c.wrong_count-bad.ensures refl)
-
-pub returns : goal.returns
+pub returns-else-carries_counts : goal.returns-else-carries_counts
 unfolding wrong_nulls
-returns c =
-    let g = c.before.before.before in
-    with-counts _ _ _ _ g.if-not-carries_counts.false-raw g.carries_counts.ensures
-    (any-end _ _ _ c.loop-i.invariant.0 c.loop-i-test.false c.loop-i.invariant.1 ∙ ap (any_below _) c.node_count-n.ensures)
+returns-else-carries_counts c = rw (← c.carries_counts.ensures, c.if-carries_counts.false)

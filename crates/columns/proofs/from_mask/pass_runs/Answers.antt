@@ -34,7 +34,7 @@ pub overflow_add-place : goal.overflow_add-place
 overflow_add-place c = let h = c.loop-place.invariant.high in let l = lies (goal.at.overflow_add-place c).Else-not-lazy in omega (arith, l.small, l.values)
 
 pub run_from-run-requires : goal.run_from-run-requires
-run_from-run-requires c = record { lies = lies (goal.at.run_from-run-requires c).Else-not-lazy; place_bound = c.loop-place-test.true }
+run_from-run-requires c = c.loop-place-test.true
 
 -- the run has some rows
 ran : (c : Else-run) →

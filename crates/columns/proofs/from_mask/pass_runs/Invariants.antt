@@ -6,7 +6,7 @@ use Rattle.columns.proofs.Passing.{Passing}
 use Rattle.columns.proofs.from_mask.pass_runs.Given as goal
 
 abbrev pub invariant-loop-place : goal.invariant-loop-place
-invariant-loop-place l = Passing (entries_of l.width l.journal l.first) (slot_of l.s l.mask) l.mask.len l.initial.place l.initial.out l.at l.out l.here l.place
+invariant-loop-place l = Passing (entries_of l.width l.journal l.first) (slot_of l.s l.fn.mask) l.fn.mask.len l.initial.place l.initial.out l.at l.out l.here l.place
 
 abbrev pub decreases-loop-place : goal.decreases-loop-place
 decreases-loop-place l = l.len - l.place

@@ -26,11 +26,11 @@ returns-then-not-lazy c = pass-nothing (entries-cut _ _ _) c.requires.in_step
 pub returns-then-place-ne0 : goal.returns-then-place-ne0
 returns-then-place-ne0 c = pass-nothing (entries-cut _ _ _) c.requires.in_step
 
-pub loop-mask-init : goal.loop-mask-init
-loop-mask-init c = (refl, pass-none (entries-cut _ _ _) (omega arith) c.requires.in_step.inside)
+pub loop-source-init : goal.loop-source-init
+loop-source-init c = (refl, pass-none (entries-cut _ _ _) (omega arith) c.requires.in_step.inside)
 
 pub words_ahead-n-requires : goal.words_ahead-n-requires
-words_ahead-n-requires c = let l = c.before in record { lies = lies (goal.at.words_ahead-n-requires c).Else-not-lazy; from_bound = l.loop-mask.invariant.1.high }
+words_ahead-n-requires c = let l = c.before in l.loop-source.invariant.1.high
 
 pub gather_words-here-requires : goal.gather_words-here-requires
 gather_words-here-requires c = let t = c.before.before.before.before in
@@ -39,33 +39,33 @@ gather_words-here-requires c = let t = c.before.before.before.before in
     let e = is-lazy (goal.at.gather_words-here-requires c).Else-not-lazy in
     let q = t.words_ahead-n.ensures in
     let h = q.inside in
-    let k = l.loop-mask.invariant.1 in
+    let k = l.loop-source.invariant.1 in
     record { words_bound = rw (length-take-le _ _ q.few) (omega arith); among = pass-among (entries-cut _ _ _) k (omega arith) h (ahead-rows q refl) s.requires.entries; words_in_bounds = pass-room (entries-cut _ _ _) k (omega arith) h (ahead-rows q refl) (rw (lazy-kept s.args.sel s.args.s.now s.args.mask e) at s.requires.place_in_bounds) }
 
-pub loop-mask-smaller : goal.loop-mask-smaller
-loop-mask-smaller c =
+pub loop-source-smaller : goal.loop-source-smaller
+loop-source-smaller c =
     let t = c.before.before.before.before.before.before.before in
     let h = t.words_ahead-n.ensures.inside in
     omega (arith, c.if-n-eq0.false)
 
-pub loop-mask-preserved : goal.loop-mask-preserved
-loop-mask-preserved c =
+pub loop-source-preserved : goal.loop-source-preserved
+loop-source-preserved c =
     let t = c.before.before.before.before.before.before.before in
     let q = t.words_ahead-n.ensures in
     let h = q.inside in
-    (c.words-in-loop-mask-1.given, pass-more (entries-cut _ _ _) t.loop-mask.invariant.1 (omega arith) h (ahead-rows q refl) c.gather_words-here.ensures)
+    (c.words-in-loop-source-1.given, pass-more (entries-cut _ _ _) t.loop-source.invariant.1 (omega arith) h (ahead-rows q refl) c.gather_words-here.ensures)
 
 pub returns : goal.returns
 returns c =
     let l = c.before.before.before.before in
     let s = l.before.before.before.before.before.before.before.before in
-    pass-done s.args.s.now s.args.mask s.args.sel s.args.cur _ (is-lazy (goal.at.returns c).Else-not-lazy) l.loop-mask.invariant.1 refl
+    pass-done s.args.s.now s.args.mask s.args.sel s.args.cur _ (is-lazy (goal.at.returns c).Else-not-lazy) l.loop-source.invariant.1 refl
 
 pub slice_bounds-words_ahead-end : goal.slice_bounds-words_ahead-end
-slice_bounds-words_ahead-end c = sym c.loop-mask.invariant.0
+slice_bounds-words_ahead-end c = sym c.loop-source.invariant.0
 
 pub overflow_mul-w : goal.overflow_mul-w
-overflow_mul-w c = let h = c.loop-mask.invariant.1.high in omega arith
+overflow_mul-w c = let h = c.loop-source.invariant.1.high in omega arith
 
 pub slice_bounds-words-end : goal.slice_bounds-words-end
 slice_bounds-words-end c = c.words_ahead-n.ensures.few
@@ -77,7 +77,7 @@ pub overflow_add-w : goal.overflow_add-w
 overflow_add-w c = let h = c.words_ahead-n.ensures.inside in omega arith
 
 pub overflow_mul-result : goal.overflow_mul-result
-overflow_mul-result c = let h = c.loop-mask.invariant.1.high in omega arith
+overflow_mul-result c = let h = c.loop-source.invariant.1.high in omega arith
 
 pub shape_of-out : goal.shape_of-out
-shape_of-out c = same_size c.loop-mask.invariant.1.wrote
+shape_of-out c = same_size c.loop-source.invariant.1.wrote

@@ -1,13 +1,9 @@
--- What the loops of `from_mask::words_ahead` keep, and their measures. Assumes nothing.
-use Prim.Native.Nat.{◌-◌}
+-- What the loop of `from_mask::words_ahead` keeps: n words stand at the front. Assumes nothing.
 use mathlib.Core.Path.{◌≡◌}
 use lib.ListN.{length}
-use Rattle.slots.specs.Source.{slot_of}
+use Rattle.slots.specs.Slot.{slot_in}
 use Rattle.columns.specs.Words.{Ahead}
 use Rattle.columns.proofs.from_mask.words_ahead.Given as goal
 
 abbrev pub invariant-loop-n : goal.invariant-loop-n
-invariant-loop-n l = (length l.words ≡ length l.initial.words) × Ahead (slot_of l.s l.mask) l.mask.len l.from l.words l.n
-
-abbrev pub decreases-loop-n : goal.decreases-loop-n
-decreases-loop-n l = length l.words - l.n
+invariant-loop-n l = (length l.words ≡ length l.initial.words) × Ahead (slot_in l.source) l.source.bits.len l.from l.words l.n

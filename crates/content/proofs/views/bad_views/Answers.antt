@@ -1,21 +1,14 @@
--- `content::views::bad_views` meets its contract: the views below i are right. Assumes nothing.
-use Rattle.std.proofs.Common.{sym, refl, ◌∙◌, rules}
-use Rattle.format.proofs.Laws.{any_found}
-use Rattle.content.proofs.Fold.{any-start, any-more, any-end}
+-- `content::views::bad_views` meets its contract: the first wrong view is an answer, and none is the other. Assumes nothing.
+use Rattle.std.proofs.Common.{◌+◌, ◌*◌, ◌∙◌, refl, rules, tests, arith}
+use Rattle.std.proofs.lemmas.Iterator.{YieldsList-from_range}
+use Rattle.std.proofs.lemmas.Iterator.Search.{any_from_yields_List}
+use Rattle.content.specs.Numbers.{bad_view_at}
+use Rattle.content.proofs.Fold.{any-range}
 use Rattle.content.proofs.views.bad_views.Goals as goal
 
-pub loop-i-init : goal.loop-i-init
-loop-i-init c = (search rules, any-start _)
-
-pub returns-then-bad_view : goal.returns-then-bad_view
-returns-then-bad_view c =
-    let v = c.before in
-    sym (any_found _ _ _ v.loop-i-test.true (sym v.bad_view.ensures ∙ c.if-bad_view.true))
-
-pub loop-i-preserved : goal.loop-i-preserved
-loop-i-preserved c =
-    let v = c.before in
-    (search rules, any-more _ _ _ v.loop-i.invariant.1 (sym c.if-bad_view.false ∙ v.bad_view.ensures) refl)
-
 pub returns : goal.returns
-returns c = any-end _ _ _ c.loop-i.invariant.0 c.loop-i-test.false c.loop-i.invariant.1
+returns c =
+    let a = c.args in
+    any_from_yields_List (λ r. bad_view_at a.s.now a.kids a.buffers (a.at + 16 * r)) _ _ _ c.any.ensures.ran (YieldsList-from_range 0 a.n a.n refl (omega arith))
+    (λ x b q k. search (rules, tests))
+    ∙ any-range _ a.n

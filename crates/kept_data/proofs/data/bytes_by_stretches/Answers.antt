@@ -6,6 +6,7 @@ use Rattle.stretches.proofs.Minding.{seen_none}
 use Rattle.stretches.proofs.Spanned.{bytes-none, bytes-passed}
 use Rattle.stretches.proofs.Telling.{closer}
 use Rattle.kept_data.proofs.Texts.{first_fits, offset-lies, offset_read, offset-climbs, offset-inside, offset-small, stretch-rises, stretch-bytes}
+use Rattle.words.proofs.Widths.{wider}
 use Rattle.kept_data.proofs.data.bytes_by_stretches.Goals as goal
 
 pub overflow_mul-len : goal.overflow_mul-len
@@ -74,8 +75,8 @@ overflow_mul-w c = omega (arith, offset-lies c.requires.ready c.requires.node_bo
 pub overflow_add-first-then-s : goal.overflow_add-first-then-s
 overflow_add-first-then-s c = omega (arith, offset-lies c.requires.ready c.requires.node_bound.0 c.requires.node_bound.2 c.told-s.result.end c.told-s.ensures.alike.high)
 
-pub number-requires : goal.number-requires
-number-requires c = record { w_value = c.requires.node_bound.1; w_in_bounds = offset-lies c.requires.ready c.requires.node_bound.0 c.requires.node_bound.2 c.told-s.result.end c.told-s.ensures.alike.high }
+pub read_number-end-requires : goal.read_number-end-requires
+read_number-end-requires c = record { is_width = wider _ c.requires.node_bound.1; inside = offset-lies c.requires.ready c.requires.node_bound.0 c.requires.node_bound.2 c.told-s.result.end c.told-s.ensures.alike.high }
 
 pub overflow_mul-w-then-s : goal.overflow_mul-w-then-s
 overflow_mul-w-then-s c = omega (arith, offset-lies c.requires.ready c.requires.node_bound.0 c.requires.node_bound.2 c.loop-r.r (omega (arith, c.loop-r.invariant.0)))
@@ -83,20 +84,20 @@ overflow_mul-w-then-s c = omega (arith, offset-lies c.requires.ready c.requires.
 pub overflow_add-first-then-s-2 : goal.overflow_add-first-then-s-2
 overflow_add-first-then-s-2 c = omega (arith, offset-lies c.requires.ready c.requires.node_bound.0 c.requires.node_bound.2 c.loop-r.r (omega (arith, c.loop-r.invariant.0)))
 
-pub number-requires-then-s : goal.number-requires-then-s
-number-requires-then-s c = record { w_value = c.requires.node_bound.1; w_in_bounds = offset-lies c.requires.ready c.requires.node_bound.0 c.requires.node_bound.2 c.loop-r.r (omega (arith, c.loop-r.invariant.0)) }
+pub read_number-requires : goal.read_number-requires
+read_number-requires c = record { is_width = wider _ c.requires.node_bound.1; inside = offset-lies c.requires.ready c.requires.node_bound.0 c.requires.node_bound.2 c.loop-r.r (omega (arith, c.loop-r.invariant.0)) }
 
 pub overflow_sub-n : goal.overflow_sub-n
-overflow_sub-n c = stretch-rises c.requires.ready c.requires.node_bound.0 c.requires.node_bound.2 (offset_read c.requires.ready c.requires.node_bound.0 c.requires.node_bound.2 c.told-s.result.end _ c.number.ensures) (offset_read c.requires.ready c.requires.node_bound.0 c.requires.node_bound.2 c.loop-r.r _ c.number-then-s.ensures) c.loop-r.invariant.3 (rw c.if-s.true at c.told-s.ensures.alike)
+overflow_sub-n c = stretch-rises c.requires.ready c.requires.node_bound.0 c.requires.node_bound.2 (offset_read c.requires.ready c.requires.node_bound.0 c.requires.node_bound.2 c.told-s.result.end _ c.read_number-end.ensures) (offset_read c.requires.ready c.requires.node_bound.0 c.requires.node_bound.2 c.loop-r.r _ c.read_number.ensures) c.loop-r.invariant.3 (rw c.if-s.true at c.told-s.ensures.alike)
 
 pub overflow_add-n : goal.overflow_add-n
-overflow_add-n c = omega (arith, offset_read c.requires.ready c.requires.node_bound.0 c.requires.node_bound.2 c.told-s.result.end _ c.number.ensures, offset_read c.requires.ready c.requires.node_bound.0 c.requires.node_bound.2 c.loop-r.r _ c.number-then-s.ensures, stretch-rises c.requires.ready c.requires.node_bound.0 c.requires.node_bound.2 (offset_read c.requires.ready c.requires.node_bound.0 c.requires.node_bound.2 c.told-s.result.end _ c.number.ensures) (offset_read c.requires.ready c.requires.node_bound.0 c.requires.node_bound.2 c.loop-r.r _ c.number-then-s.ensures) c.loop-r.invariant.3 (rw c.if-s.true at c.told-s.ensures.alike), offset-small c.requires.ready c.requires.node_bound.0 c.requires.node_bound.2 c.told-s.result.end c.told-s.ensures.alike.high, c.loop-r.invariant.2)
+overflow_add-n c = omega (arith, offset_read c.requires.ready c.requires.node_bound.0 c.requires.node_bound.2 c.told-s.result.end _ c.read_number-end.ensures, offset_read c.requires.ready c.requires.node_bound.0 c.requires.node_bound.2 c.loop-r.r _ c.read_number.ensures, stretch-rises c.requires.ready c.requires.node_bound.0 c.requires.node_bound.2 (offset_read c.requires.ready c.requires.node_bound.0 c.requires.node_bound.2 c.told-s.result.end _ c.read_number-end.ensures) (offset_read c.requires.ready c.requires.node_bound.0 c.requires.node_bound.2 c.loop-r.r _ c.read_number.ensures) c.loop-r.invariant.3 (rw c.if-s.true at c.told-s.ensures.alike), offset-small c.requires.ready c.requires.node_bound.0 c.requires.node_bound.2 c.told-s.result.end c.told-s.ensures.alike.high, c.loop-r.invariant.2)
 
 pub loop-r-smaller-then-s : goal.loop-r-smaller-then-s
 loop-r-smaller-then-s c = closer c.told-s.ensures.alike.some c.loop-r-test.true
 
 pub loop-r-preserved-then-s : goal.loop-r-preserved-then-s
-loop-r-preserved-then-s c = (c.loop-r.invariant.0, omega (arith, c.loop-r.invariant.0, c.told-s.ensures.alike.high), omega (arith, offset_read c.requires.ready c.requires.node_bound.0 c.requires.node_bound.2 c.told-s.result.end _ c.number.ensures, offset_read c.requires.ready c.requires.node_bound.0 c.requires.node_bound.2 c.loop-r.r _ c.number-then-s.ensures, stretch-rises c.requires.ready c.requires.node_bound.0 c.requires.node_bound.2 (offset_read c.requires.ready c.requires.node_bound.0 c.requires.node_bound.2 c.told-s.result.end _ c.number.ensures) (offset_read c.requires.ready c.requires.node_bound.0 c.requires.node_bound.2 c.loop-r.r _ c.number-then-s.ensures) c.loop-r.invariant.3 (rw c.if-s.true at c.told-s.ensures.alike), c.loop-r.invariant.2), stretch-bytes c.requires.ready c.requires.node_bound.0 c.requires.node_bound.2 (offset_read c.requires.ready c.requires.node_bound.0 c.requires.node_bound.2 c.told-s.result.end _ c.number.ensures) (offset_read c.requires.ready c.requires.node_bound.0 c.requires.node_bound.2 c.loop-r.r _ c.number-then-s.ensures) c.loop-r.invariant.3 (rw c.if-s.true at c.told-s.ensures.alike), c.told-s.ensures.seen)
+loop-r-preserved-then-s c = (c.loop-r.invariant.0, omega (arith, c.loop-r.invariant.0, c.told-s.ensures.alike.high), omega (arith, offset_read c.requires.ready c.requires.node_bound.0 c.requires.node_bound.2 c.told-s.result.end _ c.read_number-end.ensures, offset_read c.requires.ready c.requires.node_bound.0 c.requires.node_bound.2 c.loop-r.r _ c.read_number.ensures, stretch-rises c.requires.ready c.requires.node_bound.0 c.requires.node_bound.2 (offset_read c.requires.ready c.requires.node_bound.0 c.requires.node_bound.2 c.told-s.result.end _ c.read_number-end.ensures) (offset_read c.requires.ready c.requires.node_bound.0 c.requires.node_bound.2 c.loop-r.r _ c.read_number.ensures) c.loop-r.invariant.3 (rw c.if-s.true at c.told-s.ensures.alike), c.loop-r.invariant.2), stretch-bytes c.requires.ready c.requires.node_bound.0 c.requires.node_bound.2 (offset_read c.requires.ready c.requires.node_bound.0 c.requires.node_bound.2 c.told-s.result.end _ c.read_number-end.ensures) (offset_read c.requires.ready c.requires.node_bound.0 c.requires.node_bound.2 c.loop-r.r _ c.read_number.ensures) c.loop-r.invariant.3 (rw c.if-s.true at c.told-s.ensures.alike), c.told-s.ensures.seen)
 
 pub loop-r-smaller : goal.loop-r-smaller
 loop-r-smaller c = closer c.told-s.ensures.alike.some c.loop-r-test.true

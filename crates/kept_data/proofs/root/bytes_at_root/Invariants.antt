@@ -1,4 +1,4 @@
--- What the loops of `root::bytes_at_root` keep, and their measures. Assumes nothing.
+-- What the loop of `root::bytes_at_root` keeps. Assumes nothing.
 use Prim.Native.Nat.{◌≤◌, ◌+◌, ◌-◌, ◌*◌}
 use mathlib.Core.Path.{◌≡◌}
 use Rattle.format.specs.Bytes.{chosen}
@@ -8,7 +8,4 @@ use Rattle.kept_data.proofs.root.bytes_at_root.Given as goal
 
 abbrev pub invariant-loop-i : goal.invariant-loop-i
 invariant-loop-i l =
-    (64 * l.i ≤ l.bits.len + 64) × (l.n ≡ spans (offset_from l.w l.journal l.first) (chosen (slot_of l.mask l.bits) (64 * l.i)))
-
-abbrev pub decreases-loop-i : goal.decreases-loop-i
-decreases-loop-i l = l.bits.len - l.i
+    (l.n ≡ spans (offset_from l.w l.journal l.first) (chosen (slot_of l.mask l.fn.bits) (64 * l.i)))

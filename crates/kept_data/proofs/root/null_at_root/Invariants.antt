@@ -1,4 +1,4 @@
--- What the loops of `root::null_at_root` keep, and their measures. Assumes nothing.
+-- What the loop of `root::null_at_root` keeps. Assumes nothing.
 use Prim.Native.Nat.{◌+◌, ◌*◌, ◌-◌, ◌≤◌}
 use mathlib.Core.Bool.{false, not, ◌&&◌}
 use Rattle.format.specs.Bytes.{bit_in}
@@ -7,7 +7,4 @@ use Rattle.slots.specs.Source.{slot_of}
 use Rattle.kept_data.proofs.root.null_at_root.Given as goal
 
 abbrev pub invariant-loop-w : goal.invariant-loop-w
-invariant-loop-w l = (64 * l.w ≤ l.bits.len + 64) × All (λ j. slot_of l.mask l.bits j && not (bit_in l.journal (l.first + j))) false 0 (64 * l.w)
-
-abbrev pub decreases-loop-w : goal.decreases-loop-w
-decreases-loop-w l = l.bits.len - l.w
+invariant-loop-w l = All (λ j. slot_of l.mask l.fn.bits j && not (bit_in l.journal (l.first + j))) false 0 (64 * l.w)

@@ -7,7 +7,6 @@ use Rattle.nesting.proofs.Picks.{none-past}
 use Rattle.spans.proofs.ByWords.{no_words, word_below, word_small, word_fits, word_more, word_none}
 use Rattle.list_counts.proofs.Counts.{all-picked, passed_over}
 use Rattle.list_counts.proofs.chain.count_chain.Goals as goal
-use Rattle.list_counts.proofs.chain.count_chain.Goals.{Joined-k-len}
 use mathlib.Core.Logic.{inl, inr}
 
 pub loop-k-init : goal.loop-k-init
@@ -16,39 +15,21 @@ loop-k-init c = (omega arith, no_words _ _)
 pub overflow_mul-k : goal.overflow_mul-k
 overflow_mul-k c = omega (arith, c.requires.lies.small, c.requires.lies.values)
 
-pub overflow_mul-k-in-loop-k : goal.overflow_mul-k-in-loop-k
-overflow_mul-k-in-loop-k c = omega (arith, c.requires.lies.small, c.requires.lies.values)
+pub overflow_mul-base : goal.overflow_mul-base
+overflow_mul-base c = omega (arith, c.requires.lies.small, c.requires.lies.values)
 
 pub overflow_add-k : goal.overflow_add-k
 overflow_add-k c = omega (arith, c.requires.lies.small, c.requires.lies.values)
 
-pub word_in-x-requires : goal.word_in-x-requires
-word_in-x-requires c = record { lies = c.requires.lies; w_bound = omega arith }
-
-pub word-x-requires : goal.word-x-requires
-word-x-requires c = record { lies = c.requires.lies; w_bound = omega arith }
-
--- by either way it is the mask's word
-is_word : (c : Joined-k-len) →
-    let a = c.args in
-    c.if-k-len.x ≡ word_at a.mask.now a.bits c.loop-k.k
-is_word c = elim (c.if-k-len.branch-raw) [ inl v ↦ v.x-is ∙ v.word_in-x.ensures | inr v ↦ v.x-is ∙ v.word-x.ensures ]
-
-pub overflow_mul-base : goal.overflow_mul-base
-overflow_mul-base c = omega (arith, c.requires.lies.small, c.requires.lies.values)
-
-pub overflow_add-k-in-loop-k : goal.overflow_add-k-in-loop-k
-overflow_add-k-in-loop-k c = omega (arith, c.requires.lies.small, c.requires.lies.values)
-
 pub word_chain-sum-requires : goal.word_chain-sum-requires
 word_chain-sum-requires c = let m = 64 * c.loop-k.k in
     let past = none-past _ _ _ c.requires.sifted in
-    record { descends = c.requires.descends; below = word_below c.requires.descends.mounts past m (is_word (goal.at.word_chain-sum-requires c).Joined-k-len); word_bound = word_small c.requires.descends.mounts past m (is_word (goal.at.word_chain-sum-requires c).Joined-k-len) }
+    record { descends = c.requires.descends; below = word_below c.requires.descends.mounts past m c.word-x.ensures; word_bound = word_small c.requires.descends.mounts past m c.word-x.ensures }
 
 pub overflow_add-sum : goal.overflow_add-sum
 overflow_add-sum c =
     record {
-      fits = word_fits c.requires.descends.mounts (none-past _ _ _ c.requires.sifted) (64 * c.loop-k.k) (is_word (goal.at.overflow_add-sum c).Joined-k-len) c.loop-k.invariant.1 c.word_chain-sum.ensures;
+      fits = word_fits c.requires.descends.mounts (none-past _ _ _ c.requires.sifted) (64 * c.loop-k.k) c.word-x.ensures c.loop-k.invariant.1 c.word_chain-sum.ensures;
     }
 
 pub loop-k-smaller-then-x-ne0 : goal.loop-k-smaller-then-x-ne0
@@ -56,10 +37,7 @@ loop-k-smaller-then-x-ne0 c = omega arith
 
 pub loop-k-preserved-then-x-ne0 : goal.loop-k-preserved-then-x-ne0
 loop-k-preserved-then-x-ne0 c =
-    (omega arith, word_more c.requires.descends.mounts (none-past _ _ _ c.requires.sifted) (64 * c.loop-k.k) (is_word (goal.at.loop-k-preserved-then-x-ne0 c).Joined-k-len) c.loop-k.invariant.1 c.word_chain-sum.ensures _ (omega arith))
-
-pub blank_end-k-requires : goal.blank_end-k-requires
-blank_end-k-requires c = record { lies = c.requires.lies; from_bound = omega arith }
+    (omega arith, word_more c.requires.descends.mounts (none-past _ _ _ c.requires.sifted) (64 * c.loop-k.k) c.word-x.ensures c.loop-k.invariant.1 c.word_chain-sum.ensures _ (omega arith))
 
 pub loop-k-smaller-then-k-eq0 : goal.loop-k-smaller-then-k-eq0
 loop-k-smaller-then-k-eq0 c = omega (arith, c.blank_end-k.ensures.low)
@@ -70,7 +48,7 @@ loop-k-preserved-then-k-eq0 c =
     let empty = c.before.before in
     let m = 64 * empty.loop-k.k in
     let past = none-past _ _ _ empty.requires.sifted in
-    (omega (arith, c.blank_end-k.ensures.high), passed_over _ c.blank_end-k.ensures (word_none empty.requires.descends.mounts past m (is_word (goal.at.loop-k-preserved-then-k-eq0 c).Joined-k-len) empty.if-x-ne0.false empty.loop-k.invariant.1 _ (omega arith)))
+    (omega (arith, c.blank_end-k.ensures.high), passed_over _ c.blank_end-k.ensures (word_none empty.requires.descends.mounts past m c.word-x.ensures empty.if-x-ne0.false empty.loop-k.invariant.1 _ (omega arith)))
 
 pub loop-k-smaller : goal.loop-k-smaller
 loop-k-smaller c = omega arith
@@ -78,7 +56,7 @@ loop-k-smaller c = omega arith
 pub loop-k-preserved : goal.loop-k-preserved
 loop-k-preserved c =
     let empty = c.before in
-    (omega arith, word_none empty.requires.descends.mounts (none-past _ _ _ empty.requires.sifted) (64 * empty.loop-k.k) (is_word (goal.at.loop-k-preserved c).Joined-k-len) empty.if-x-ne0.false empty.loop-k.invariant.1 _ (omega arith))
+    (omega arith, word_none empty.requires.descends.mounts (none-past _ _ _ empty.requires.sifted) (64 * empty.loop-k.k) c.word-x.ensures empty.if-x-ne0.false empty.loop-k.invariant.1 _ (omega arith))
 
 pub returns : goal.returns
 returns c = all-picked _ _ _ (64 * c.loop-k.k) (omega arith) c.loop-k.invariant.1

@@ -8,7 +8,7 @@ use Rattle.list_counts.specs.Chains.{followed}
 use Rattle.list_counts.proofs.chain.count_chain.Given as goal
 
 abbrev pub invariant-loop-k : goal.invariant-loop-k
-invariant-loop-k l = (64 * l.k ≤ l.bits.len + 64) × (l.sum ≡ spans (followed l.journal l.levels l.n) (chosen (slot_of l.mask l.bits) (64 * l.k)))
+invariant-loop-k l = (64 * l.k ≤ l.len + 64) × (l.sum ≡ spans (followed l.journal l.levels l.n) (chosen (slot_of l.mask l.fn.bits) (64 * l.k)))
 
 abbrev pub decreases-loop-k : goal.decreases-loop-k
-decreases-loop-k l = l.bits.len - l.k
+decreases-loop-k l = l.len - l.k

@@ -2,9 +2,10 @@
 use Prim.Native.Nat.{◌-◌}
 use mathlib.Core.Path.{refl, sym, ◌∙◌}
 use native.Mathlib.Omega.{arith}
+use Rattle.words.proofs.Widths.{wider}
 use Rattle.list_counts.proofs.Climbing.{Served, served, followed-none}
 use Rattle.list_counts.proofs.chain.follow.Goals as goal
-use Rattle.list_counts.proofs.chain.follow.Goals.{After-number-arg-1}
+use Rattle.list_counts.proofs.chain.follow.Goals.{After-read_number-arg-1}
 
 pub loop-k-init : goal.loop-k-init
 loop-k-init c = (c.requires, refl)
@@ -34,7 +35,7 @@ pub bounds-levels-k-in-loop-k : goal.bounds-levels-k-in-loop-k
 bounds-levels-k-in-loop-k c = omega (arith, c.loop-k.invariant.0.few)
 
 -- the level below which k - 1 are left
-here : (c : After-number-arg-1) →
+here : (c : After-read_number-arg-1) →
     let a = c.args in
     Served a.journal.now a.levels.now c.loop-k.k (c.loop-k.k - 1) c.loop-k.r
 here c = served c.loop-k.invariant.0 (omega arith)
@@ -45,15 +46,15 @@ overflow_mul-w-in-loop-k c = omega (arith, (here c).lies)
 pub overflow_add-levels : goal.overflow_add-levels
 overflow_add-levels c = omega (arith, (here c).lies)
 
-pub number-r-requires : goal.number-r-requires
-number-r-requires c = let s = here c in record { w_value = s.wide; w_in_bounds = s.lies }
+pub read_number-r-requires : goal.read_number-r-requires
+read_number-r-requires c = let s = here c in record { is_width = wider _ s.wide; inside = s.lies }
 
 pub loop-k-smaller : goal.loop-k-smaller
 loop-k-smaller c = omega arith
 
 pub loop-k-preserved : goal.loop-k-preserved
 loop-k-preserved c =
-    let (reaches, same) = (here (goal.at.loop-k-preserved c).After-number-arg-1).next c.number-r.ensures in
+    let (reaches, same) = (here (goal.at.loop-k-preserved c).After-read_number-arg-1).next c.read_number-r.ensures in
     (reaches, same ∙ c.loop-k.invariant.1)
 
 pub returns : goal.returns

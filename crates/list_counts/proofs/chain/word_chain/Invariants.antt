@@ -1,16 +1,13 @@
--- What the loops of `chain::word_chain` keep, and their measures. Assumes nothing.
-use Prim.Native.Nat.{◌+◌}
-use mathlib.Core.Path.{◌≡◌}
+-- What the loop of `chain::word_chain` keeps: of all rows' spans, `sum` lacks those of the rows that are left. Assumes nothing.
+use Rattle.std.proofs.Common.{◌≡◌, ◌+◌}
 use Rattle.format.specs.Node.{rows}
 use Rattle.format.specs.Rows.{set_rows, Below}
 use Rattle.spans.specs.Spans.{spans}
 use Rattle.list_counts.specs.Chains.{followed}
 use Rattle.list_counts.proofs.chain.word_chain.Given as goal
 
-abbrev pub invariant-loop-rest : goal.invariant-loop-rest
-invariant-loop-rest l =
-    Below (rows l.journal 0) (set_rows l.base l.rest)
-    × (l.sum + spans (followed l.journal l.levels l.n) (set_rows l.base l.rest) ≡ spans (followed l.journal l.levels l.n) (set_rows l.base l.word))
-
-abbrev pub decreases-loop-rest : goal.decreases-loop-rest
-decreases-loop-rest l = l.rest
+abbrev pub invariant-loop-from : goal.invariant-loop-from
+invariant-loop-from l =
+    let it = l.from-iterator in
+    Below (rows l.journal 0) (set_rows it.base it.rest)
+    × (l.sum + spans (followed l.journal l.levels l.n) (set_rows it.base it.rest) ≡ spans (followed l.journal l.levels l.n) (set_rows l.base l.word))

@@ -1,5 +1,5 @@
--- What the loops of `edges::count_runs` keep, and their measures. Assumes nothing.
-use Prim.Native.Nat.{suc, ◌≤◌, ◌-◌}
+-- What the loop of `edges::count_runs` keeps: n counts the kept runs below j, and run j starts at lo. Assumes nothing.
+use Prim.Native.Nat.{suc, ◌≤◌}
 use mathlib.Core.Path.{◌≡◌}
 use lib.ListN.{length}
 use Rattle.format.specs.Bytes.{chosen}
@@ -10,7 +10,4 @@ use Rattle.nesting.proofs.edges.count_runs.Given as goal
 
 abbrev pub invariant-loop-j : goal.invariant-loop-j
 invariant-loop-j l =
-    (l.runs ≡ rows l.journal (suc l.i)) × (l.j ≤ l.runs) × (l.n ≤ l.j) × (l.lo ≡ edge l.journal l.i l.bits.len l.j) × (l.n ≡ length (chosen (run_picked l.journal l.i l.mask l.bits) l.j))
-
-abbrev pub decreases-loop-j : goal.decreases-loop-j
-decreases-loop-j l = l.runs - l.j
+    (l.runs ≡ rows l.journal (suc l.i)) × (l.n ≤ l.j) × (l.lo ≡ edge l.journal l.i l.len l.j) × (l.n ≡ length (chosen (run_picked l.journal l.i l.mask l.fn.bits) l.j))

@@ -10,4 +10,4 @@ overflow_cast-skip c = omega (arith, skip-few c.requires.at_runs)
 pub returns : goal.returns
 returns c =
     c.least.ensures
-    ∙ rw (c.less.ensures, c.run_end.ensures, skip_is c.requires.at_runs) (edge-next _ _ _ _)
+    ∙ rw (c.saturating_sub.ensures, c.run_end.ensures, skip_is c.requires.at_runs) (edge-next _ _ _ _)

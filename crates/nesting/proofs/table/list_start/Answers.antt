@@ -2,6 +2,7 @@
 use native.Mathlib.Omega.{arith}
 use Rattle.nesting.proofs.ListAt.{list-wide, rows_few, skip-few, pack-few, start-lies, start-read}
 use borrow.Author.Rules.{rules}
+use Rattle.words.proofs.Widths.{wider}
 use Rattle.nesting.proofs.table.list_start.Goals as goal
 
 pub overflow_mul-at : goal.overflow_mul-at
@@ -43,8 +44,8 @@ overflow_mul-w c = omega (arith, start-lies c.requires.at_list c.args.r c.requir
 pub overflow_add-at-2 : goal.overflow_add-at-2
 overflow_add-at-2 c = omega (arith, start-lies c.requires.at_list c.args.r c.requires.r_bound, pack-few c.requires.at_list)
 
-pub number-requires : goal.number-requires
-number-requires c = record { w_value = list-wide c.requires.at_list; w_in_bounds = start-lies c.requires.at_list c.args.r c.requires.r_bound }
+pub read_number-requires : goal.read_number-requires
+read_number-requires c = record { is_width = wider _ (list-wide c.requires.at_list); inside = start-lies c.requires.at_list c.args.r c.requires.r_bound }
 
 pub returns : goal.returns
-returns c = start-read c.requires.at_list c.args.r c.number.ensures
+returns c = start-read c.requires.at_list c.args.r c.read_number.ensures

@@ -2,6 +2,7 @@
 use native.Mathlib.Omega.{arith}
 use Rattle.nesting.proofs.Arrays.{runs_wide, runs-narrow, run_lies, run-read}
 use borrow.Author.Rules.{rules}
+use Rattle.words.proofs.Widths.{wider}
 use Rattle.nesting.proofs.table.run_end.Goals as goal
 
 pub overflow_mul-w : goal.overflow_mul-w
@@ -40,8 +41,8 @@ overflow_mul-w-2 c = omega (arith, run_lies c.requires.at_runs c.args.j c.requir
 pub overflow_add-at-2 : goal.overflow_add-at-2
 overflow_add-at-2 c = omega (arith, run_lies c.requires.at_runs c.args.j c.requires.j_bound)
 
-pub number-requires : goal.number-requires
-number-requires c = record { w_value = runs_wide c.requires.at_runs; w_in_bounds = run_lies c.requires.at_runs c.args.j c.requires.j_bound }
+pub read_number-requires : goal.read_number-requires
+read_number-requires c = record { is_width = wider _ (runs_wide c.requires.at_runs); inside = run_lies c.requires.at_runs c.args.j c.requires.j_bound }
 
 pub returns : goal.returns
-returns c = run-read c.requires.at_runs c.args.j _ c.number.ensures
+returns c = run-read c.requires.at_runs c.args.j _ c.read_number.ensures

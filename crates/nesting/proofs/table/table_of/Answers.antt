@@ -10,8 +10,8 @@ use Rattle.nesting.proofs.table.table_of.Goals as goal
 pub overflow_sub-journal : goal.overflow_sub-journal
 overflow_sub-journal c = omega arith
 
-pub get32-start-requires : goal.get32-start-requires
-get32-start-requires c = omega arith
+pub get-start-requires : goal.get-start-requires
+get-start-requires c = omega arith
 
 pub overflow_cast-start : goal.overflow_cast-start
 overflow_cast-start c = search rules
@@ -29,10 +29,10 @@ pub overflow_mul-j : goal.overflow_mul-j
 overflow_mul-j c = omega arith
 
 pub overflow_add-start : goal.overflow_add-start
-overflow_add-start c = omega (arith, table-lies c.requires _ c.loop-j.j c.get32-start.ensures.value (omega arith))
+overflow_add-start c = omega (arith, table-lies c.requires _ c.loop-j.j c.get-start.ensures.value (omega arith))
 
-pub get32-requires : goal.get32-requires
-get32-requires c = table-lies c.requires _ c.loop-j.j c.get32-start.ensures.value (omega arith)
+pub get-requires : goal.get-requires
+get-requires c = table-lies c.requires _ c.loop-j.j c.get-start.ensures.value (omega arith)
 
 pub offset_bounds-table-j : goal.offset_bounds-table-j
 offset_bounds-table-j c = omega arith
@@ -47,7 +47,7 @@ pub loop-j-smaller : goal.loop-j-smaller
 loop-j-smaller c = omega arith
 
 pub loop-j-preserved : goal.loop-j-preserved
-loop-j-preserved c = (omega arith, simp length-set c.loop-j.invariant.1, holds_more c.loop-j.invariant.2 (omega arith) (table-read _ _ c.loop-j.j _ c.get32-start.ensures.value c.get32.ensures.value))
+loop-j-preserved c = (omega arith, simp length-set c.loop-j.invariant.1, holds_more c.loop-j.invariant.2 (omega arith) (table-read _ _ c.loop-j.j _ c.get-start.ensures.value c.get.ensures.value))
 
 pub returns : goal.returns
 returns c = holds-less c.loop-j.invariant.2 (omega arith)

@@ -1,7 +1,15 @@
 -- `pack::tree::bad_data_buffer` meets its contract: the fields are the nodes' own. Assumes nothing.
-use Rattle.format.specs.Node.{has_no_bitmap, of_kind}
+use Rattle.std.proofs.Common.{◌≡◌, ◌∙◌, refl}
+use Rattle.format.specs.declared.Kind.TheVariants.{Views, Native}
+use Rattle.format.specs.Node.{has_no_bitmap, kind_of, of_kind}
+use Rattle.pack.proofs.Closed.{kind-is, kind-read}
 use Rattle.pack.proofs.tree.bad_data_buffer.Goals as goal
 
 pub returns : goal.returns
-unfolding of_kind has_no_bitmap
-returns c = rw (c.node_at-above.ensures, c.node_at-n.ensures)
+unfolding has_no_bitmap kind_of
+returns c =
+    let views : c.eq-views.result ≡ of_kind 6 c.args.pack.now c.args.p =
+    c.eq-views.ensures ∙ kind-is _ _ 6 Views refl refl (λ e. cc) (kind-read _ _ c.node_at-above.ensures c.from.ensures) in
+    let native : c.eq-native.result ≡ of_kind 2 c.args.pack.now c.args.i =
+    c.eq-native.ensures ∙ kind-is _ _ 2 Native refl refl (λ e. cc) (kind-read _ _ c.node_at-n.ensures c.from-2.ensures) in
+    rw (views, native, c.node_at-n.ensures)

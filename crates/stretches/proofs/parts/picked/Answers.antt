@@ -1,31 +1,16 @@
 -- `stretches::parts::picked` meets its contract. Assumes nothing.
 use native.Mathlib.Omega.{arith}
+use Rattle.slots.specs.Source.{slot_of}
 use Rattle.slots.proofs.Reading.{slot-past}
 use Rattle.scan.proofs.Asked.{first_run-is, first-end}
 use Rattle.stretches.proofs.Minding.{picked_none, picked-run, picked-end}
-use borrow.Author.Rules.{rules}
 use Rattle.stretches.proofs.parts.picked.Goals as goal
 
-pub next_run-requires : goal.next_run-requires
-next_run-requires c = search rules
+pub returns-in-Some : goal.returns-in-Some
+returns-in-Some c = picked_none c.requires.1 (first_run-is {p = slot_of c.args.mask.now c.args.bits} (rw c.in-Some.is at c.next_run.ensures)) (omega arith) c.least.ensures
 
-pub enum_known-a : goal.enum_known-a
-enum_known-a c = search rules
+pub returns-in-Some-2 : goal.returns-in-Some-2
+returns-in-Some-2 c = picked-run c.requires.1 (first_run-is {p = slot_of c.args.mask.now c.args.bits} (rw c.in-Some.is at c.next_run.ensures)) (omega arith) c.least-in-Some-2.ensures
 
-pub least-requires : goal.least-requires
-least-requires c = search rules
-
-pub returns-then-r-a : goal.returns-then-r-a
-returns-then-r-a c = picked_none c.requires.1 (first_run-is (rw c.in-Span.is at c.next_run.ensures)) (omega arith) c.least.ensures
-
-pub least-requires-in-Span : goal.least-requires-in-Span
-least-requires-in-Span c = search rules
-
-pub enum_told-1 : goal.enum_told-1
-enum_told-1 c = search rules
-
-pub returns-else-r-a : goal.returns-else-r-a
-returns-else-r-a c = picked-run c.requires.1 (first_run-is (rw c.in-Span.is at c.next_run.ensures)) (omega arith) c.least-in-Span.ensures
-
-pub returns-in-End : goal.returns-in-End
-returns-in-End c = picked-end c.requires.1 (first-end (rw c.in-End.is at c.next_run.ensures)) (λ j h. slot-past _ _ j h)
+pub returns-in-None : goal.returns-in-None
+returns-in-None c = picked-end c.requires.1 (first-end {p = slot_of c.args.mask.now c.args.bits} (rw c.in-None.is at c.next_run.ensures)) (λ j h. slot-past _ _ j h)

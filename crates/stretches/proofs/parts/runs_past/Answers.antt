@@ -44,11 +44,8 @@ loop-e-init c = (omega arith, omega (arith, runs-are c.requires.0, c.requires.1)
 pub run_end-requires : goal.run_end-requires
 run_end-requires c = record { at_runs = c.requires.0; j_bound = omega (arith, runs-are c.requires.0) }
 
-pub less-requires : goal.less-requires
-less-requires c = search rules
-
-pub returns-then-x-less : goal.returns-then-x-less
-returns-then-x-less c = c.loop-e.invariant.2
+pub returns-then-x-saturating_sub : goal.returns-then-x-saturating_sub
+returns-then-x-saturating_sub c = c.loop-e.invariant.2
 
 pub overflow_add-e-in-loop-e : goal.overflow_add-e-in-loop-e
 overflow_add-e-in-loop-e c = omega (arith, runs-small c.requires.0, c.loop-e.invariant.1)
@@ -57,7 +54,7 @@ pub loop-e-smaller : goal.loop-e-smaller
 loop-e-smaller c = omega arith
 
 pub loop-e-preserved : goal.loop-e-preserved
-loop-e-preserved c = (omega (arith, c.loop-e.invariant.0), omega arith, ended-more c.loop-e.invariant.2 (omega (arith, runs-are c.requires.0)) (rw (skip_is c.requires.0, c.run_end.ensures) at c.less.ensures) (omega arith))
+loop-e-preserved c = (omega (arith, c.loop-e.invariant.0), omega arith, ended-more c.loop-e.invariant.2 (omega (arith, runs-are c.requires.0)) (rw (skip_is c.requires.0, c.run_end.ensures) at c.saturating_sub.ensures) (omega arith))
 
 pub returns : goal.returns
 returns c = c.loop-e.invariant.2

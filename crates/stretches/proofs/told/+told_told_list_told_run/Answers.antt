@@ -224,7 +224,7 @@ pub told_run-run_start-requires : goal.told_run-run_start-requires
 told_run-run_start-requires t c = record { at_runs = c.requires.at_runs.0; j_bound = c.requires.at_runs.1 }
 
 pub told_run-loop-x-init : goal.told_run-loop-x-init
-told_run-loop-x-init t c = (c.requires.lies.1, run-hi c.requires.ready c.requires.at_runs.0 c.requires.at_runs.1 c.run_end.ensures c.less.ensures c.least-hi.ensures, omega (arith, run-lo c.requires.ready c.requires.at_runs.0 c.requires.at_runs.1 c.run_start.ensures c.less-x.ensures), empty _ _ _ (omega (arith, run-lo c.requires.ready c.requires.at_runs.0 c.requires.at_runs.1 c.run_start.ensures c.less-x.ensures)))
+told_run-loop-x-init t c = (c.requires.lies.1, run-hi c.requires.ready c.requires.at_runs.0 c.requires.at_runs.1 c.run_end.ensures c.saturating_sub.ensures c.least-hi.ensures, omega (arith, run-lo c.requires.ready c.requires.at_runs.0 c.requires.at_runs.1 c.run_start.ensures c.saturating_sub-x.ensures), empty _ _ _ (omega (arith, run-lo c.requires.ready c.requires.at_runs.0 c.requires.at_runs.1 c.run_start.ensures c.saturating_sub-x.ensures)))
 
 pub told_run-told-s-requires : goal.told_run-told-s-requires
 told_run-told-s-requires t c = (omega (arith, c.decreases), ((c.requires.lies.0, c.loop-x.invariant.0), (ready_at c.requires.ready (omega arith), (c.requires.at_runs.0.inside, omega (arith, c.loop-x.invariant.1)))))

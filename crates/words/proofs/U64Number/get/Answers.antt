@@ -1,0 +1,17 @@
+-- `get` of a u64 meets its contract. Assumes nothing.
+use Rattle.std.proofs.Common.{◌≡◌, ap, ◌∙◌, arith}
+use Rattle.std.specs.Int.{from_le_bytes, w64}
+use Rattle.format.specs.Bytes.{le}
+use Rattle.format.proofs.Numbers.{read}
+use Rattle.words.proofs.Bytes.{from_8}
+use Rattle.words.proofs.U64Number.get.Goals as goal
+use Rattle.words.proofs.U64Number.get.Goals.{After-from_le_bytes}
+
+value : (c : After-from_le_bytes) → c.from_le_bytes.result ≡ le 8 c.args.s.now c.args.at
+value c = c.from_le_bytes.ensures ∙ ap (from_le_bytes w64) c.array_at.ensures ∙ from_8 _ _
+
+pub returns-clause-value : goal.returns-clause-value
+returns-clause-value c = value c
+
+pub returns-clause-bytes : goal.returns-clause-bytes
+returns-clause-bytes c = (read 8 _ _ _ c.requires (λ i. omega (arith, c.type_inv.s i)) (value c)).1
