@@ -7,8 +7,8 @@ ghost use Rattle.append.specs.Cells.{zeros, padding};
 
 use words::Number;
 
-// x in width bytes, low byte first, by bytes.
-fn put_bytes(out: &mut [u8], at: usize, x: u64, width: usize) -> usize
+// x in width bytes, low byte first. Only the bytes that fit are written. It ends a bitmap, so that a width may be any.
+pub fn put_number(out: &mut [u8], at: usize, x: u64, width: usize) -> usize
     requires { at + width ≤ length out.old }
     ensures { Wrote out.old at (to_le width x) out.new result }
 {
@@ -18,19 +18,6 @@ fn put_bytes(out: &mut [u8], at: usize, x: u64, width: usize) -> usize
         left /= 256;
     }
     at + width
-}
-
-// x in width bytes, low byte first; the widths of offsets and run ends as words. Only the bytes that fit are written.
-pub fn put_number(out: &mut [u8], at: usize, x: u64, width: usize) -> usize
-    requires { at + width ≤ length out.old }
-    ensures { Wrote out.old at (to_le width x) out.new result }
-{
-    match width {
-        2 => u16::low(x).put(out, at),
-        4 => u32::low(x).put(out, at),
-        8 => x.put(out, at),
-        _ => put_bytes(out, at, x, width),
-    }
 }
 
 // Each number in 4 bytes: the fields of a node, the trailer.

@@ -17,8 +17,9 @@ use Rattle.format.proofs.SlotLaws.{picks-cat, picks-none, count-cat, up-cat, slo
 use Rattle.format.proofs.RowLaws.{set-from, set-none}
 use Rattle.format.proofs.WordLaws.{from-shift, low-from, low-slots, gather-map}
 use Rattle.format.proofs.Measure.{length-packed}
-use Rattle.slots.specs.Source.{slot_of, word_at}
-use Rattle.slots.specs.declared.Bits.{Bits}
+use Rattle.slots.specs.Source.{word_at}
+use Rattle.slots.specs.declared.Source.{Source}
+use Rattle.slots.specs.Slot.{slot_in}
 use Rattle.slots.proofs.Reading.{slots-picks}
 use Rattle.scan.specs.Asked.{Blank}
 use Rattle.words.specs.Run.{LowestRun}
@@ -27,52 +28,52 @@ use Rattle.bitmaps.specs.Push.{Room, Packs, Adds, bit_from}
 use Rattle.bitmaps.proofs.PushLaws.{packs-room, adds_none, adds_then, adds-room}
 
 -- the bits of the picked rows of the first n slots
-unfoldable pub taken : List ℕ → ℕ → List ℕ → Bits → ℕ → List Bool
-taken b from s m n = map (bit_from b from) (picks_from (slot_of s m) n 0)
+unfoldable pub taken : List ℕ → ℕ → Source → ℕ → List Bool
+taken b from source n = map (bit_from b from) (picks_from (slot_in source) n 0)
 
-module _ (b : List ℕ) (from : ℕ) (s : List ℕ) (m : Bits) where
+module _ (b : List ℕ) (from : ℕ) (source : Source) where
   -- one word more
-  pub taken_more : (w x v : ℕ) → x ≡ word_at s m w → v ≡ w + 1 → taken b from s m (64 * v) ≡ taken b from s m (64 * w) ++ map (bit_from b from) (set_rows (64 * w) x)
+  pub taken_more : (w x v : ℕ) → x ≡ word_at source.bytes.now source.bits w → v ≡ w + 1 → taken b from source (64 * v) ≡ taken b from source (64 * w) ++ map (bit_from b from) (set_rows (64 * w) x)
   unfolding taken
   taken_more w x v ex e =
       let next : 64 * v ≡ 64 * w + 64 = omega arith in
-      rw (next, picks-cat, zero-add, ex, set-from) (map-append (bit_from b from) (picks_from (slot_of s m) (64 * w) 0) (picks_from (slot_of s m) 64 (64 * w)))
+      rw (next, picks-cat, zero-add, ex, set-from) (map-append (bit_from b from) (picks_from (slot_in source) (64 * w) 0) (picks_from (slot_in source) 64 (64 * w)))
 
   -- an empty word gives none
-  pub taken_none : (w x v : ℕ) → x ≡ word_at s m w → x ≡ 0 → v ≡ w + 1 → taken b from s m (64 * v) ≡ taken b from s m (64 * w)
-  taken_none w x v ex z e = taken_more w x v ex e ∙ rw (set-none (64 * w) x z) (append-nil (taken b from s m (64 * w)))
+  pub taken_none : (w x v : ℕ) → x ≡ word_at source.bytes.now source.bits w → x ≡ 0 → v ≡ w + 1 → taken b from source (64 * v) ≡ taken b from source (64 * w)
+  taken_none w x v ex z e = taken_more w x v ex e ∙ rw (set-none (64 * w) x z) (append-nil (taken b from source (64 * w)))
 
   -- nor do words that are passed over
-  pub taken-over : {w k : ℕ} → Blank (slot_of s m) w m.len k → taken b from s m (64 * k) ≡ taken b from s m (64 * w)
+  pub taken-over : {w k : ℕ} → Blank (slot_in source) w source.bits.len k → taken b from source (64 * k) ≡ taken b from source (64 * w)
   unfolding taken
   taken-over {w} {k} h =
       let sum : 64 * k ≡ 64 * w + (64 * k - 64 * w) = omega (arith, h.low) in
-      let none = picks-none (slot_of s m) (64 * k - 64 * w) (64 * w) (rw (← sum) h.all) in
+      let none = picks-none (slot_in source) (64 * k - 64 * w) (64 * w) (rw (← sum) h.all) in
       rw (sum, picks-cat, zero-add, none, append-nil)
 
   -- no more are taken than the whole column has, so a turn's word fits
-  taken-le : (n : ℕ) → length (taken b from s m n) ≤ length (taken b from s m m.len)
+  taken-le : (n : ℕ) → length (taken b from source n) ≤ length (taken b from source source.bits.len)
   unfolding taken
-  taken-le n = simp length-map (dite (dec_le n m.len) (λ (h : n ≤ m.len). fewer n h) (λ h. let l : m.len ≤ n = omega arith in rw (slots-picks s m n l) (omega arith)))
+  taken-le n = simp length-map (dite (dec_le n source.bits.len) (λ (h : n ≤ source.bits.len). fewer n h) (λ h. let l : source.bits.len ≤ n = omega arith in rw (slots-picks source.bytes.now source.bits n l) (omega arith)))
     where
-      fewer : (k : ℕ) → k ≤ m.len → length (picks_from (slot_of s m) k 0) ≤ length (picks_from (slot_of s m) m.len 0)
+      fewer : (k : ℕ) → k ≤ source.bits.len → length (picks_from (slot_in source) k 0) ≤ length (picks_from (slot_in source) source.bits.len 0)
       fewer k h =
-          let sum : k + (m.len - k) ≡ m.len = omega arith in
-          let cat = rw sum at (count-cat (slot_of s m) k (m.len - k) 0) in
+          let sum : k + (source.bits.len - k) ≡ source.bits.len = omega arith in
+          let cat = rw sum at (count-cat (slot_in source) k (source.bits.len - k) 0) in
           omega arith
 
-  pub word_room : {old : List ℕ} {at : ℕ} {to : Bitmap} (w x : ℕ) → x ≡ word_at s m w → Packs (taken b from s m (64 * w)) old at to
-      → at + length (packed (taken b from s m m.len)) ≤ length old → Room to (length (set_rows (64 * w) x))
+  pub word_room : {old : List ℕ} {at : ℕ} {to : Bitmap} (w x : ℕ) → x ≡ word_at source.bytes.now source.bits w → Packs (taken b from source (64 * w)) old at to
+      → at + length (packed (taken b from source source.bits.len)) ≤ length old → Room to (length (set_rows (64 * w) x))
   word_room w x ex p fit =
-      let whole = length-packed (taken b from s m m.len) in
+      let whole = length-packed (taken b from source source.bits.len) in
       let rows = length-map (set_rows (64 * w) x) (bit_from b from) in
-      let more = ap length (taken_more w x (w + 1) ex refl) ∙ length-append (taken b from s m (64 * w)) (map (bit_from b from) (set_rows (64 * w) x)) in
-      packs-room p _ (length (taken b from s m m.len)) (omega (arith, taken-le (64 * (w + 1)))) (rw (← whole) fit)
+      let more = ap length (taken_more w x (w + 1) ex refl) ∙ length-append (taken b from source (64 * w)) (map (bit_from b from) (set_rows (64 * w) x)) in
+      packs-room p _ (length (taken b from source source.bits.len)) (omega (arith, taken-le (64 * (w + 1)))) (rw (← whole) fit)
 
   -- past the last slot nothing more is taken
-  pub taken-all : (n : ℕ) → m.len ≤ n → taken b from s m n ≡ taken b from s m m.len
+  pub taken-all : (n : ℕ) → source.bits.len ≤ n → taken b from source n ≡ taken b from source source.bits.len
   unfolding taken
-  taken-all n h = ap (map (bit_from b from)) (slots-picks s m n h)
+  taken-all n h = ap (map (bit_from b from)) (slots-picks source.bytes.now source.bits n h)
 
 -- ---- the bits of rows, whichever way they are told
 

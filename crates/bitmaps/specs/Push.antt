@@ -1,12 +1,13 @@
 -- A bitmap that is being written: full words stand in the output, and fewer than 64 bits wait ("spare bits 0"). Assumes nothing.
-use Rattle.std.specs.Prelude.{ℕ, ◌+◌, ◌*◌, ◌/◌, ◌≡◌, ◌≤◌, Bool, true, false, List, ◌++◌, length, map}
+use Rattle.std.specs.Prelude.{ℕ, ◌+◌, ◌*◌, ◌/◌, ◌≡◌, ◌≤◌, Bool, true, false, cond, List, ◌++◌, length, map, Option, Some, None}
 use Rattle.format.specs.Bytes.{bit_in}
 use Rattle.format.specs.Write.{numbers}
 use Rattle.format.specs.Words.{full_words, spare}
 use Rattle.format.specs.Put.{Wrote}
-use Rattle.predicate.specs.declared.Held.TheVariants.{Stored, Lazy}
+use Rattle.format.specs.Mask.{by_route}
+use Rattle.slots.specs.declared.Source.{Source}
 use Rattle.predicate.specs.declared.Selection.{Selection}
-use Rattle.predicate.specs.declared.Selection.TheVariants.{Nothing, Everything, Runs, Rows}
+use Rattle.predicate.specs.declared.Selection.TheVariants.{Nothing, Everything, Words, Runs, Rows}
 use Rattle.bitmaps.specs.declared.Bitmap.{Bitmap}
 use Rattle.bitmaps.specs.declared.Column.{Column}
 
@@ -36,10 +37,13 @@ bit_from b from r = bit_in b (from + r)
 abbrev pub bits_of : Column → List ℕ → List Bool
 bits_of column rows = map (bit_from column.values.now column.from) rows
 
--- row numbers are stored
-abbrev pub stored_rows : Selection → Bool
-stored_rows Nothing = false
-stored_rows (Everything n) = false
-stored_rows (Runs h) = false
-stored_rows (Rows (Stored n)) = true
-stored_rows (Rows Lazy) = false
+-- the source that a bitmap column is compressed by, or none where it goes by the selection's runs or rows (docs/FORMAT.md, 6)
+abbrev pub unless : Bool → Source → Option Source
+unless goes source = cond goes None (Some source)
+
+abbrev pub compressed : Selection → ℕ → Option Source
+compressed Nothing count = None
+compressed (Everything n) count = None
+compressed (Words source) count = unless (by_route source.bits.len count false) source
+compressed (Runs stored) count = unless (by_route stored.source.bits.len count false) stored.source
+compressed (Rows stored) count = unless (by_route stored.source.bits.len count true) stored.source

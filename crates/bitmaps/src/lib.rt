@@ -3,18 +3,18 @@
 
 ghost use Rattle.std.specs.Prelude.{◌≡◌, ◌+◌, ◌-◌, ◌*◌, ◌^◌, ◌≤◌, ◌<◌, length, map, []};
 ghost use Rattle.format.specs.Bytes.{bit_in, bytes_for, to_le, packed};
-ghost use Rattle.format.specs.Slots.{picks_from, count_up, word_from};
+ghost use Rattle.format.specs.Slots.{count_up, word_from};
 ghost use Rattle.format.specs.Rows.{set_rows};
 ghost use Rattle.format.specs.Words.{low_bits, word_of};
 ghost use Rattle.format.specs.Put.{Wrote};
-ghost use Rattle.slots.specs.Source.{Lies, slot_of};
-ghost use Rattle.predicate.specs.Selection.{Holds, Readable, Sourced, kept_by};
 ghost use Rattle.format.specs.Mask.{by_route};
-ghost use Rattle.bitmaps.specs.Push.{Room, Packs, Adds, bit_from, bits_of, stored_rows};
+ghost use Rattle.predicate.specs.Entries.{picked};
+ghost use Rattle.predicate.specs.Selection.{selected, reach};
+ghost use Rattle.bitmaps.specs.Push.{Room, Packs, Adds, bit_from, bits_of, compressed};
 
 use bits::Packer;
-use predicate::{Block, Cursor, Held, Selection};
-use slots::{Bits, Source};
+use predicate::{Block, Blocks, Selection};
+use slots::Source;
 use words::{Number, RowRuns};
 
 // Where the bits of the rows stand: row 0 at bit `from` of the values.
@@ -147,23 +147,17 @@ pub fn filter_bits_compress(
     at: usize,
     values: &[u8],
     from: usize,
-    s: &[u8],
-    mask: Bits,
+    source: Source,
 ) -> usize
-    requires lies { Lies s.now mask }
-    requires len_bound { from + mask.len < 2 ^ 62 }
-    requires len_in_bounds { at + length (packed (map (bit_from values.now from) (picks_from (slot_of s.now mask) mask.len 0))) ≤ length out.old }
-    ensures { Wrote out.old at (packed (map (bit_from values.now from) (picks_from (slot_of s.now mask) mask.len 0))) out.new result }
+    requires len_bound { from + source.bits.len < 2 ^ 62 }
+    requires len_in_bounds { at + length (packed (map (bit_from values.now from) (picked source))) ≤ length out.old }
+    ensures { Wrote out.old at (packed (map (bit_from values.now from) (picked source.entry))) out.new result }
 {
-    let source = Source {
-        bytes: s,
-        bits: mask,
-    };
     let column = Column { values, from };
     let mut to = Bitmap::new(out, at);
     let mut w: usize = 0;
-    let len = mask.len;
-    // No `for`: behind an empty word w moves on past all that follow.
+    let len = source.bits.len;
+    // No `for`: behind an empty word w moves on past all that follow. Tried: over `scan::PickedWords` random masks take 3 to 8 % longer.
     while 64 * w < len {
         let x = source.word(w);
         let base = 64 * w;
@@ -185,40 +179,25 @@ fn filter_bits_blocks(
     values: &[u8],
     from: usize,
     sel: Selection,
-    s: &[u8],
-    mask: Bits,
-    list: &[u32],
 ) -> usize
-    requires readable { Readable sel s.now mask }
-    requires holds { Holds sel (kept_by sel s.now mask) mask.len list.now }
-    requires len_bound { from + mask.len < 2 ^ 61 }
-    requires len_in_bounds { at + length (packed (map (bit_from values.now from) (picks_from (kept_by sel s.now mask) mask.len 0))) ≤ length out.old }
-    ensures { Wrote out.old at (packed (map (bit_from values.now from) (picks_from (kept_by sel s.now mask) mask.len 0))) out.new result }
+    requires len_bound { from + reach sel < 2 ^ 61 }
+    requires len_in_bounds { at + length (packed (map (bit_from values.now from) (selected sel))) ≤ length out.old }
+    ensures { Wrote out.old at (packed (map (bit_from values.now from) (selected sel.entry))) out.new result }
 {
     let column = Column { values, from };
     let mut to = Bitmap::new(out, at);
-    let mut cur = Cursor { place: 0, index: 0 };
-    loop {
-        match predicate::next_block(sel, s, mask, list, cur) {
-            Block::Run(start, end, next) => {
-                to.push_run(column, start, end);
-                cur = next;
-            }
-            Block::Word(base, x, next) => {
-                to.push_word(column, base, x);
-                cur = next;
-            }
-            Block::Listed(i, j, next) => {
-                to.push_rows(column, &list[i..j]);
-                cur = next;
-            }
-            Block::End => return to.flush(),
+    for block in Blocks::new(sel) {
+        match block {
+            Block::Run(start, end) => to.push_run(column, start, end),
+            Block::Word(base, word) => to.push_word(column, base, word),
+            Block::Listed(rows) => to.push_rows(column, rows),
         }
     }
+    to.flush()
 }
 
 // Whether a bitmap column goes by the selection's runs or row numbers, and not by compress: nearly all rows are picked, or nearly none and the row
-// numbers are stored.
+// numbers are stored. No plainer than by a flag, because docs/FORMAT.md (6) asks whether they are stored, whatever they are.
 pub fn by_route(length: usize, count: usize, stored: bool) -> bool
     ensures { result ≡ by_route length count stored }
 {
@@ -226,11 +205,17 @@ pub fn by_route(length: usize, count: usize, stored: bool) -> bool
     (length - few <= count) | ((count <= few) & stored)
 }
 
-// Whether row numbers are stored.
-fn stored_rows(sel: Selection) -> bool
-    ensures { result ≡ stored_rows sel }
+// The source whose words compress takes, where `count` rows are kept and the column goes by it.
+fn compressed<'a>(sel: Selection<'a>, count: usize) -> Option<Source<'a>>
+    ensures { result ≡ compressed sel.entry count }
 {
-    matches!(sel, Selection::Rows(Held::Stored(_)))
+    let (source, stored) = match sel {
+        Selection::Nothing | Selection::Everything(_) => return None,
+        Selection::Words(source) => (source, false),
+        Selection::Runs(list) => (list.source, false),
+        Selection::Rows(list) => (list.source, true),
+    };
+    (!by_route(source.bits.len, count, stored)).then_some(source)
 }
 
 // The bits of the kept rows, row 0 at bit `from` of the values, where `count` rows are kept: by compress, or by the selection's blocks.
@@ -240,22 +225,14 @@ pub fn filter_bits(
     values: &[u8],
     from: usize,
     sel: Selection,
-    s: &[u8],
-    mask: Bits,
-    list: &[u32],
     count: usize,
 ) -> usize
-    requires sourced { Sourced sel s.now mask }
-    requires holds { Holds sel (kept_by sel s.now mask) mask.len list.now }
-    requires len_bound { from + mask.len < 2 ^ 61 }
-    requires len_in_bounds { at + length (packed (map (bit_from values.now from) (picks_from (kept_by sel s.now mask) mask.len 0))) ≤ length out.old }
-    ensures { Wrote out.old at (packed (map (bit_from values.now from) (picks_from (kept_by sel s.now mask) mask.len 0))) out.new result }
+    requires len_bound { from + reach sel < 2 ^ 61 }
+    requires len_in_bounds { at + length (packed (map (bit_from values.now from) (selected sel))) ≤ length out.old }
+    ensures { Wrote out.old at (packed (map (bit_from values.now from) (selected sel.entry))) out.new result }
 {
-    match sel {
-        Selection::Nothing => at,
-        Selection::Runs(_) | Selection::Rows(_) if !by_route(mask.len, count, stored_rows(sel)) => {
-            filter_bits_compress(out, at, values, from, s, mask)
-        }
-        _ => filter_bits_blocks(out, at, values, from, sel, s, mask, list),
+    match compressed(sel, count) {
+        Some(source) => filter_bits_compress(out, at, values, from, source),
+        None => filter_bits_blocks(out, at, values, from, sel),
     }
 }

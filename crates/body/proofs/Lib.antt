@@ -1,4 +1,3 @@
 -- Laws of this crate.
-pub mod KeptLaws
-pub mod SelectLaws
-pub mod Listed
+mod Fields
+mod Listed

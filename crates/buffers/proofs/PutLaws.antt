@@ -30,6 +30,11 @@ puts-bytes {rest} {at} {start} e p w = record {
   starts = p.place ∙ pad-ends at ∙ sym (ap (start_of rest at) e);
 }
 
+-- the padding and the bytes are all that is added
+pub appended_size : (at : ℕ) (bs : List ℕ) → length (appended at (holds bs)) ≡ length (padding at) + length bs
+unfolding appended
+appended_size at bs = length-append (padding at) bs
+
 -- there is room for the padding, and then for the bytes
 module _ (at room : ℕ) {x : Buffer} {bs : List ℕ} (e : x ≡ holds bs) (fit : at + length (appended at x) ≤ room) where
   parts : at + length (padding at) + length bs ≤ room

@@ -2,17 +2,9 @@
 use Rattle.std.specs.Prelude.{ℕ, ◌+◌, List, [], ◌++◌, ◌≡◌, length}
 use Rattle.format.specs.Bytes.{raised}
 use Rattle.format.specs.Put.{Wrote}
-use Rattle.format.specs.Slots.{picks_from}
 use Rattle.format.specs.Write.{Buffer, absent, holds}
 use Rattle.append.specs.Cells.{padding}
-use Rattle.predicate.specs.declared.Selection.{Selection}
-use Rattle.predicate.specs.Selection.{kept_by}
-use Rattle.slots.specs.declared.Bits.{Bits}
 use Rattle.buffers.specs.declared.Placed.{Placed}
-
--- the rows that a selection picks
-abbrev pub rows_by : Selection → List ℕ → Bits → List ℕ
-rows_by sel s mask = picks_from (kept_by sel s mask) mask.len 0
 
 -- what a buffer adds to a body that ends at a place
 unfoldable pub appended : ℕ → Buffer → List ℕ

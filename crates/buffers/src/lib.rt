@@ -1,20 +1,23 @@
 // One buffer of an extract, behind the body so far: padding to a multiple of 8, then what the kept rows give.
-#![tactic(auto)]
+#![tactic(auto, using(crate::proofs::PutLaws::appended_size))]
 
 ghost use Rattle.std.specs.Prelude.{map, ◌+◌, ◌^◌, ◌≤◌, ◌<◌, length};
 ghost use Rattle.format.specs.Bytes.{packed};
 ghost use Rattle.format.specs.Write.{holds, numbers, offsets};
-ghost use Rattle.append.specs.Cells.{entries_of, Entries};
+ghost use Rattle.append.specs.Cells.{Entries};
+ghost use Rattle.gather.specs.Column.{entries_in};
 ghost use Rattle.texts.specs.Texts.{offset, sizes_of, Offsets};
-ghost use Rattle.texts.specs.Own.{Have, own_of};
-ghost use Rattle.list_columns.specs.Spans.{reach, Spans};
+ghost use Rattle.texts.specs.Own.{Have as HaveOwn, own_of};
+ghost use Rattle.list_columns.specs.Lists.{Have as HaveLists, starts};
 ghost use Rattle.bitmaps.specs.Push.{bit_from};
-ghost use Rattle.runs.specs.Groups.{EndsLie, size_at, end_bytes};
-ghost use Rattle.predicate.specs.Selection.{Holds, Readable, Sourced, kept_by};
-ghost use Rattle.buffers.specs.Place.{appended, rows_by, Puts};
+ghost use Rattle.runs.specs.Ends.{kept_ends};
+ghost use Rattle.predicate.specs.Selection.{reach, selected};
+ghost use Rattle.buffers.specs.Place.{appended, Puts};
 
+use gather::Column;
+use list_columns::Lists;
 use predicate::Selection;
-use slots::Bits;
+use runs::run_ends::RunEnds;
 use texts::OwnBytes;
 use words::Number;
 
@@ -25,28 +28,14 @@ pub struct Placed {
     pub next: usize,
 }
 
-// The entries of the kept rows, width bytes each, row 0 at `place`.
-pub fn put_entries(
-    out: &mut [u8],
-    at: usize,
-    journal: &[u8],
-    place: usize,
-    width: usize,
-    sel: Selection,
-    s: &[u8],
-    mask: Bits,
-    list: &[u32],
-) -> Placed
-    requires readable { Readable sel s.now mask }
-    requires holds { Holds sel (kept_by sel s.now mask) mask.len list.now }
-    requires entries { Entries width journal.now place mask.len }
-    requires mask_in_bounds { at + length (appended at (holds (entries_of width journal.now place (rows_by sel s.now mask)))) ≤ length out.old }
-    ensures { Puts 0 (holds (entries_of width journal.now place (rows_by sel s.now mask))) out.old at out.new result }
+// The entries of the kept rows.
+pub fn put_entries(out: &mut [u8], at: usize, column: Column, sel: Selection) -> Placed
+    requires entries { Entries column.width column.src.now column.first (reach sel) }
+    requires room { at + length (appended at (holds (entries_in column (selected sel)))) ≤ length out.old }
+    ensures { Puts 0 (holds (entries_in column.entry (selected sel.entry))) out.old at out.new result }
 {
     let start = append::fields::pad(out, at);
-    let next = columns::native::filter_native(
-        out, start, journal, place, width, sel, s, mask, list,
-    );
+    let next = columns::native::filter_native(out, start, column, sel);
     Placed { start, next }
 }
 
@@ -57,67 +46,35 @@ pub fn put_offsets<N: Number>(
     journal: &[u8],
     place: usize,
     sel: Selection,
-    s: &[u8],
-    mask: Bits,
-    list: &[u32],
 ) -> Placed
-    requires readable { Readable sel s.now mask }
-    requires holds { Holds sel (kept_by sel s.now mask) mask.len list.now }
-    requires offsets { Offsets N.WIDTH journal.now place mask.len }
-    requires mask_in_bounds { at + length (appended at (holds (numbers N.WIDTH (offsets (sizes_of (offset N.WIDTH journal.now place) (rows_by sel s.now mask)))))) ≤ length out.old }
-    ensures { Puts 0 (holds (numbers N.WIDTH (offsets (sizes_of (offset N.WIDTH journal.now place) (rows_by sel s.now mask))))) out.old at out.new result }
+    requires offsets { Offsets N.WIDTH journal.now place (reach sel) }
+    requires room { at + length (appended at (holds (numbers N.WIDTH (offsets (sizes_of (offset N.WIDTH journal.now place) (selected sel)))))) ≤ length out.old }
+    ensures { Puts 0 (holds (numbers N.WIDTH (offsets (sizes_of (offset N.WIDTH journal.now place) (selected sel.entry))))) out.old at out.new result }
 {
     let start = append::fields::pad(out, at);
-    let to = text_columns::filter_offsets::<N>(out, start, journal, place, sel, s, mask, list);
-    Placed {
-        start,
-        next: to.next,
-    }
-}
-
-// The own bytes of the kept rows.
-pub fn put_texts(
-    out: &mut [u8],
-    at: usize,
-    own: OwnBytes,
-    sel: Selection,
-    s: &[u8],
-    mask: Bits,
-    list: &[u32],
-) -> Placed
-    requires readable { Readable sel s.now mask }
-    requires holds { Holds sel (kept_by sel s.now mask) mask.len list.now }
-    requires texts { Have own mask.len }
-    requires mask_in_bounds { at + length (appended at (holds (own_of own (rows_by sel s.now mask)))) ≤ length out.old }
-    ensures { Puts 0 (holds (own_of own.entry (rows_by sel s.now mask))) out.old at out.new result }
-{
-    let start = append::fields::pad(out, at);
-    let next = text_columns::filter_texts(out, start, own, sel, s, mask, list);
+    let next = text_columns::filter_offsets::<N>(out, start, journal, place, sel).next;
     Placed { start, next }
 }
 
-// The offsets of the kept rows of a list rebuilt from 0, row 0's at `place` and its validity bit at bit `from`: a null row has no child row.
-pub fn put_spans<N: Number>(
-    out: &mut [u8],
-    at: usize,
-    journal: &[u8],
-    place: usize,
-    from: usize,
-    sel: Selection,
-    s: &[u8],
-    mask: Bits,
-    list: &[u32],
-) -> Placed
-    requires readable { Readable sel s.now mask }
-    requires holds { Holds sel (kept_by sel s.now mask) mask.len list.now }
-    requires spans { Spans N.WIDTH journal.now place from mask.len }
-    requires mask_in_bounds { at + length (appended at (holds (numbers N.WIDTH (offsets (sizes_of (reach N.WIDTH journal.now place from) (rows_by sel s.now mask)))))) ≤ length out.old }
-    ensures { Puts 0 (holds (numbers N.WIDTH (offsets (sizes_of (reach N.WIDTH journal.now place from) (rows_by sel s.now mask))))) out.old at out.new result }
+// The own bytes of the kept rows.
+pub fn put_texts(out: &mut [u8], at: usize, own: OwnBytes, sel: Selection) -> Placed
+    requires texts { HaveOwn own (reach sel) }
+    requires room { at + length (appended at (holds (own_of own (selected sel)))) ≤ length out.old }
+    ensures { Puts 0 (holds (own_of own.entry (selected sel.entry))) out.old at out.new result }
 {
     let start = append::fields::pad(out, at);
-    let next = list_columns::filter_spans::<N>(
-        out, start, journal, place, from, sel, s, mask, list,
-    );
+    let next = text_columns::filter_texts(out, start, own, sel);
+    Placed { start, next }
+}
+
+// The offsets of the kept rows of a list rebuilt from 0: a null row has no child row.
+pub fn put_spans<N: Number>(out: &mut [u8], at: usize, lists: Lists, sel: Selection) -> Placed
+    requires spans { HaveLists N.WIDTH lists (reach sel) }
+    requires room { at + length (appended at (holds (numbers N.WIDTH (offsets (sizes_of (starts N.WIDTH lists) (selected sel)))))) ≤ length out.old }
+    ensures { Puts 0 (holds (numbers N.WIDTH (offsets (sizes_of (starts N.WIDTH lists.entry) (selected sel.entry))))) out.old at out.new result }
+{
+    let start = append::fields::pad(out, at);
+    let next = list_columns::filter_spans::<N>(out, start, lists, sel);
     Placed { start, next }
 }
 
@@ -128,41 +85,23 @@ pub fn put_bits(
     journal: &[u8],
     from: usize,
     sel: Selection,
-    s: &[u8],
-    mask: Bits,
-    list: &[u32],
     count: usize,
 ) -> Placed
-    requires sourced { Sourced sel s.now mask }
-    requires holds { Holds sel (kept_by sel s.now mask) mask.len list.now }
-    requires len_bound { from + mask.len < 2 ^ 61 }
-    requires mask_in_bounds { at + length (appended at (holds (packed (map (bit_from journal.now from) (rows_by sel s.now mask))))) ≤ length out.old }
-    ensures { Puts 0 (holds (packed (map (bit_from journal.now from) (rows_by sel s.now mask)))) out.old at out.new result }
+    requires len_bound { from + reach sel < 2 ^ 61 }
+    requires room { at + length (appended at (holds (packed (map (bit_from journal.now from) (selected sel))))) ≤ length out.old }
+    ensures { Puts 0 (holds (packed (map (bit_from journal.now from) (selected sel.entry)))) out.old at out.new result }
 {
     let start = append::fields::pad(out, at);
-    let next = bitmaps::filter_bits(out, start, journal, from, sel, s, mask, list, count);
+    let next = bitmaps::filter_bits(out, start, journal, from, sel, count);
     Placed { start, next }
 }
 
-// The run ends of the runs that keep a row, of n runs whose ends stand at `place`.
-pub fn put_run_ends(
-    out: &mut [u8],
-    at: usize,
-    journal: &[u8],
-    place: usize,
-    width: usize,
-    n: usize,
-    skip: usize,
-    sel: Selection,
-    s: &[u8],
-    mask: Bits,
-) -> Placed
-    requires ends_lie { EndsLie width journal.now place n }
-    requires sourced { Sourced sel s.now mask }
-    requires n_in_bounds { at + length (appended at (holds (end_bytes width (size_at width journal.now place skip (rows_by sel s.now mask)) n))) ≤ length out.old }
-    ensures { Puts 0 (holds (end_bytes width (size_at width journal.now place skip (rows_by sel s.now mask)) n)) out.old at out.new result }
+// The run ends of the runs that keep a row.
+pub fn put_run_ends(out: &mut [u8], at: usize, runs: RunEnds, sel: Selection) -> Placed
+    requires { at + length (appended at (holds (kept_ends runs (selected sel)))) ≤ length out.old }
+    ensures { Puts 0 (holds (kept_ends runs.entry (selected sel.entry))) out.old at out.new result }
 {
     let start = append::fields::pad(out, at);
-    let next = runs::filter_run_ends(out, start, journal, place, width, n, skip, sel, s, mask);
+    let next = runs::filter_run_ends(out, start, runs, sel);
     Placed { start, next }
 }

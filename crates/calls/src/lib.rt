@@ -9,6 +9,7 @@ ghost use Rattle.std.specs.Prelude.{◌≤◌, ◌<◌, length};
 use filter::filter;
 use format::Answer;
 use report::Line;
+use std::array;
 
 // What lent bytes and entries hold before a call. No entry is so large: it is a row number.
 const BEFORE: u8 = 0xA5;
@@ -24,49 +25,63 @@ const SCRATCH_ROOM: usize = 64;
 
 const OUTPUT_ROOM: usize = 4096;
 
-// A write that fails is passed over: what is printed is held to stored answers.
-fn say(rt: &impl Print, text: &[u8]) {
-    let _ = rt.write_all(text);
+// The six numbers of a line: what is said of a call, and how long what is lent to it is.
+#[derive(Clone, Copy)]
+struct Lent {
+    stated: Option<u64>,
+    asked: bool,
+    list: u32,
+    scratch: u32,
+    output: u32,
 }
 
-// One of the six numbers of a line.
-fn number(numbers: &[u8; 24], k: usize) -> u64
-    requires { k < 6 }
-{
-    let at = 4 * k;
-    u64::from(u32::from_le_bytes([
-        numbers[at],
-        numbers[at + 1],
-        numbers[at + 2],
-        numbers[at + 3],
-    ]))
+impl Lent {
+    // The numbers have four bytes each, low byte first.
+    fn of(numbers: [u8; 24]) -> Lent {
+        let [s, c, a, list, scratch, output] = array::from_fn::<u32, 6, _>(|k| {
+            let at = 4 * k;
+            u32::from_le_bytes([
+                numbers[at],
+                numbers[at + 1],
+                numbers[at + 2],
+                numbers[at + 3],
+            ])
+        });
+        Lent {
+            stated: (s != 0).then_some(u64::from(c)),
+            asked: a != 0,
+            list,
+            scratch,
+            output,
+        }
+    }
 }
 
 // A length that a line gives, but no more than there is.
-fn at_most(x: u64, room: usize) -> usize
+fn at_most(x: u32, room: usize) -> usize
     ensures { result ≤ room }
 {
-    x.min(room as u64) as usize
+    room.min(x as usize)
 }
 
-// The bytes in hexadecimal, a space before every four.
+// The bytes in hexadecimal, a space before every four. A write that fails is passed over: what is printed is held to stored answers.
 fn say_extract(rt: &impl Print, bytes: &[u8]) {
-    say(rt, b"  extract");
+    let _ = print!(rt; "  extract");
     for four in bytes.chunks(4) {
-        say(rt, b" ");
+        let _ = print!(rt; " ");
         for byte in four {
             let _ = print!(rt; "{byte:02x}");
         }
     }
-    say(rt, b"\n");
+    let _ = println!(rt; "");
 }
 
 fn say_list(rt: &impl Print, list: &[u32]) {
-    say(rt, b"  list");
+    let _ = print!(rt; "  list");
     for entry in list {
         let _ = print!(rt; " {entry}");
     }
-    say(rt, b"\n");
+    let _ = println!(rt; "");
 }
 
 // How many entries at the front of a list were stored.
@@ -78,7 +93,7 @@ fn stored(list: &[u32]) -> usize
         .count()
 }
 
-// The stored entries, where a list was asked for; gives how many.
+// The stored entries, where a list was asked for; gives how many. `asked` is one of the line's numbers, and stands beside the list as in `filter::filter`.
 fn say_stored(rt: &impl Print, asked: bool, list: &[u32]) -> usize {
     if asked {
         let n = stored(list);
@@ -117,18 +132,19 @@ fn say_rest(
     let list_kept = entries_kept(list, entries);
     let scratch_kept = bytes_kept(scratch, zeros);
     let output_kept = bytes_kept(output, size);
-    if list_kept & scratch_kept & output_kept {
-        say(rt, b"  rest kept\n");
+    let rest = if list_kept & scratch_kept & output_kept {
+        "rest kept"
     } else {
-        say(rt, b"  REST CHANGED\n");
-    }
+        "REST CHANGED"
+    };
+    let _ = println!(rt; "  {rest}");
 }
 
 // What a call left that was not refused.
 fn say_done(rt: &impl Print, bytes: u64, asked: bool, list: &[u32], scratch: &[u8], output: &[u8]) {
-    let size = at_most(bytes, output.len());
+    let size = bytes.min(output.len() as u64) as usize;
     if size as u64 != bytes {
-        say(rt, b"  EXTRACT PAST THE OUTPUT\n");
+        let _ = println!(rt; "  EXTRACT PAST THE OUTPUT");
     }
     say_extract(rt, &output[..size]);
     let entries = say_stored(rt, asked, list);
@@ -145,13 +161,12 @@ fn call(
     rt: &impl Print,
     mask: &[u8],
     journal: &[u8],
-    numbers: &[u8; 24],
+    lent: Lent,
     list: &mut [u32],
     scratch: &mut [u8],
     output: &mut [u8],
 ) {
-    let stated = (number(numbers, 0) != 0).then_some(number(numbers, 1));
-    let asked = number(numbers, 2) != 0;
+    let Lent { stated, asked, .. } = lent;
     let answer = filter(mask, journal, stated, asked, list, scratch, output);
     say_answer(rt, answer);
     match answer {
@@ -161,18 +176,18 @@ fn call(
 }
 
 // A call with buffers as long as the line says.
-fn lend(rt: &impl Print, mask: &[u8], journal: &[u8], numbers: &[u8; 24]) {
+fn lend(rt: &impl Print, mask: &[u8], journal: &[u8], lent: Lent) {
     let mut list = [BEFORE_ENTRY; LIST_ROOM];
     let mut scratch = [BEFORE; SCRATCH_ROOM];
     let mut output = [BEFORE; OUTPUT_ROOM];
-    let places = at_most(number(numbers, 3), LIST_ROOM);
-    let need = at_most(number(numbers, 4), SCRATCH_ROOM);
-    let room = at_most(number(numbers, 5), OUTPUT_ROOM);
+    let places = at_most(lent.list, LIST_ROOM);
+    let need = at_most(lent.scratch, SCRATCH_ROOM);
+    let room = at_most(lent.output, OUTPUT_ROOM);
     call(
         rt,
         mask,
         journal,
-        numbers,
+        lent,
         &mut list[..places],
         &mut scratch[..need],
         &mut output[..room],
@@ -188,14 +203,14 @@ fn case<'a>(rt: &impl Print, text: &'a [u8]) -> &'a [u8]
     let mut journal = [0u8; PACK_ROOM];
     let mut numbers = [0u8; 24];
     let (name, rest) = text.split_at(1 + case_text::name_end(&text[1..]));
-    say(rt, name);
-    say(rt, b": ");
+    let _ = rt.write_all(name);
+    let _ = print!(rt; ": ");
     let m = case_text::read_part(rest, &mut mask);
     let j = case_text::read_part(m.rest, &mut journal);
     let n = case_text::read_part(j.rest, &mut numbers);
     let m_len = m.len;
     let j_len = j.len;
-    lend(rt, &mask[..m_len], &journal[..j_len], &numbers);
+    lend(rt, &mask[..m_len], &journal[..j_len], Lent::of(numbers));
     n.rest
 }
 

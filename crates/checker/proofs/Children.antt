@@ -10,7 +10,7 @@ use Rattle.format.specs.Node.{node_count, rows, of_kind}
 use Rattle.format.specs.Verdict.{any_child, bad_child_rows}
 use Rattle.content.proofs.Fold.{any-ext}
 use Rattle.pack.specs.Tree.{Parents}
-use Rattle.checker.proofs.Ranges.{any-later}
+use Rattle.pack.proofs.Ranges.{any-later}
 
 -- node i is a child of p and has other rows, where that matters
 abbrev pub other_rows : List ℕ → ℕ → ℕ → Bool

@@ -1,5 +1,4 @@
 -- Laws that the proofs of this crate share.
-pub mod Ranges
 pub mod Children
 pub mod Fits
 pub mod Sizes

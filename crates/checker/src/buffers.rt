@@ -51,8 +51,8 @@ fn bad_buffers(pack: &[u8], i: u32) -> bool
     let places = n.skip as u64 + n.rows as u64;
     let first = first_size(kind, n.param, places, child_rows(pack, i));
     let second = second_size(kind, places, n.second_length);
-    let bitmap = n.validity_at as u64 + (places + 7) / 8;
-    ((n.validity_at != 0xFFFF_FFFF) & (end < bitmap))
+    let marks = (places + 7) / 8;
+    n.bitmap().is_some_and(|at| end < at as u64 + marks)
         | (end < n.first_at as u64 + first)
         | (end < n.second_at as u64 + second)
 }

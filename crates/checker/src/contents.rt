@@ -25,10 +25,10 @@ fn bad_dictionary(pack: &[u8], i: u32) -> bool
     let rows = n.rows as usize;
     let limit = child_rows(pack, i);
     let at = n.first_at as usize + w as usize * skip;
-    if n.validity_at == 0xFFFF_FFFF {
-        return bad_keys(pack, at, w, rows, limit);
+    match n.bitmap() {
+        Some(bitmap) => bad_valid_keys(pack, at, w, rows, limit, bitmap, skip),
+        None => bad_keys(pack, at, w, rows, limit),
     }
-    bad_valid_keys(pack, at, w, rows, limit, n.validity_at as usize, skip)
 }
 
 // Whether node i's content is wrong, by its kind.

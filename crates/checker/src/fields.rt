@@ -25,7 +25,7 @@ fn misfits(
 {
     !param
         | !kids
-        | !(bitmap | (n.validity_at == 0xFFFF_FFFF))
+        | !(bitmap | n.bitmap().is_none())
         | !(first | (n.first_at == 0))
         | !(second | (n.second_at == 0))
         | !(length | (n.second_length == 0))

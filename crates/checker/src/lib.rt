@@ -16,7 +16,7 @@ ghost use Rattle.format.specs.Verdict.{wrong_fields, wrong_tree, wrong_rows, wro
 use buffers::wrong_buffers;
 use contents::wrong_content;
 use fields::wrong_fields;
-use format::{Pack, Reason, Refused};
+use format::{Kind, Pack, Reason, Refused};
 use nulls::wrong_nulls;
 use pack::frame::{wrong_mark, wrong_size, wrong_table};
 use pack::read::node_at;
@@ -83,7 +83,7 @@ pub fn check(pack: &[u8]) -> Result<(), Reason>
 fn wrong_root(pack: &[u8]) -> bool
     ensures { result ≡ wrong_root pack.now }
 {
-    node_at(pack, 0).kind != 1
+    Kind::from(node_at(pack, 0).kind) != Kind::Bits
 }
 
 // Whether a mask is accepted, and if not, why: for one of the reasons 1 to 9 or 20.

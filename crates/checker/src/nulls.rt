@@ -14,15 +14,10 @@ fn null_count(pack: &[u8], i: u32) -> usize
     ensures { result ≡ null_count pack.now i }
 {
     let n = node_at(pack, i);
-    if n.validity_at == 0xFFFF_FFFF {
-        return 0;
+    match n.bitmap() {
+        Some(at) => slots::null_count(pack, at, n.skip as usize, n.rows as usize),
+        None => 0,
     }
-    slots::null_count(
-        pack,
-        n.validity_at as usize,
-        n.skip as usize,
-        n.rows as usize,
-    )
 }
 
 // Whether node i's last field is not its null count.

@@ -3,6 +3,7 @@ ghost use Rattle.std.specs.Prelude.{◌≡◌, not, ◌&&◌, ◌||◌, eqb, ltb
 ghost use Rattle.format.specs.Node.{node_count, rows, places, of_kind};
 ghost use Rattle.format.specs.Verdict.{wrong_rows};
 
+use format::Kind;
 use pack::read::{node_at, node_count, trailer_of};
 use pack::tree::parents_of;
 
@@ -24,7 +25,9 @@ fn other_rows(pack: &[u8], p: u32, i: u32) -> bool
 {
     let above = node_at(pack, p);
     let n = node_at(pack, i);
-    ((above.kind == 10) | (above.kind == 11)) & (n.rows != above.rows)
+    let kind = Kind::from(above.kind);
+    let shares = (kind == Kind::Struct) | (kind == Kind::Union);
+    shares & (n.rows != above.rows)
 }
 
 // 6, of all nodes; the second test of all below the root.

@@ -1,7 +1,7 @@
 -- Kept rows word by word or run by run of the mask, between two blocks. Assumes nothing.
 use Prim.Native.Nat.{ℕ, suc, ◌+◌, ◌-◌, ◌*◌, ◌≤◌, ◌<◌}
-use mathlib.Core.Bool.{Bool, true}
-use mathlib.Core.List.{List, [], ◌++◌, append-nil}
+use mathlib.Core.Bool.{Bool}
+use mathlib.Core.List.{List, ◌++◌}
 use mathlib.Core.Path.{◌≡◌, refl, sym, ap, ◌∙◌}
 use native.Mathlib.Nat.{le_refl}
 use native.Mathlib.Omega.{arith}
@@ -9,17 +9,17 @@ use lib.ListN.{length, take, set, length-append, length-set}
 use lib.Seq.{length-take-le, take-suc-set}
 use Rattle.format.specs.Put.{Wrote}
 use Rattle.format.specs.Slots.{picks_from, count_up, word_from}
-use Rattle.format.proofs.Put.{none, then, named, same_size, room, less}
+use Rattle.format.proofs.Put.{none, then, named, same_size, less}
 use Rattle.format.proofs.RowLaws.{set-from, below-picks}
 use Rattle.format.proofs.SlotLaws.{picks-cat, picks-none, all_none}
-use Rattle.slots.specs.Source.{slot_of}
-use Rattle.slots.specs.declared.Bits.{Bits}
+use Rattle.slots.specs.declared.Source.{Source}
+use Rattle.slots.specs.Slot.{slot_in}
 use Rattle.predicate.specs.declared.Selection.{Selection}
-use Rattle.predicate.specs.declared.Cursor.{Cursor}
-use Rattle.predicate.specs.Selection.{picks_on, InStep, kept_by, lazy}
-use Rattle.predicate.specs.Blocks.{Ran}
+use Rattle.predicate.specs.declared.Selection.TheVariants.{Words}
+use Rattle.predicate.specs.declared.Blocks.{Blocks}
+use Rattle.predicate.specs.Selection.{reach}
+use Rattle.predicate.specs.Blocks.{kept_by, picks_on, rows_left, InStep, Ran}
 use Rattle.predicate.proofs.Picks.{picks-run, picks-upto}
-use Rattle.predicate.proofs.Steps.{lazy-kept, lazy-step}
 use Rattle.append.specs.Cells.{word_rows, Among}
 use Rattle.append.proofs.CellLaws.{words-none, words_last}
 use Rattle.columns.specs.Words.{Ahead, Passed}
@@ -35,8 +35,8 @@ pub record Passing (f : List ℕ → List ℕ) (p : ℕ → Bool) (len place : �
 nothing : {f : List ℕ → List ℕ} (cut : Cuts f) (p : ℕ → Bool) (n i : ℕ) {old : List ℕ} {at : ℕ} → n ≡ 0 → Wrote old at (f (picks_from p n i)) old at
 nothing {f} cut p n i e = none (ap f (picks-none p n i (all_none (omega arith))) ∙ cut.none) refl
 
-pub pass-nothing : {f : List ℕ → List ℕ} {sel : Selection} {p : ℕ → Bool} {len : ℕ} {list : List ℕ} {c : Cursor} {old : List ℕ} {at : ℕ} → Cuts f → InStep sel p len list c → Passed f sel p len list c old at old at c
-pass-nothing {p = p} {c = c} cut h = record { on = le_refl c.place; step = h; wrote = nothing cut p _ _ (omega arith) }
+pub pass-nothing : {f : List ℕ → List ℕ} {s : Blocks} {old : List ℕ} {at : ℕ} → Cuts f → InStep s → Passed f s old at old at s
+pass-nothing {s = s} cut h = record { same = refl; on = le_refl s.place; step = h; wrote = nothing cut (kept_by s.sel) _ _ (omega arith) }
 
 pub pass-none : {f : List ℕ → List ℕ} {p : ℕ → Bool} {len place to : ℕ} {old : List ℕ} {at : ℕ} → Cuts f → to ≡ place → place ≤ len → Passing f p len place old at old at to
 pass-none {p = p} cut e h = record { low = omega arith; high = omega arith; wrote = nothing cut p _ _ (omega arith) }
@@ -99,30 +99,20 @@ module _ {f : List ℕ → List ℕ} (cut : Cuts f) {p : ℕ → Bool} {len plac
   pub run_more : {last : List ℕ} {next : ℕ} → Wrote new here (f (count_up (e - a) a)) last next → Passing f p len place old at last next e
   run_more = pass-more cut k forward r.high run-rows
 
--- up to where a lazy selection's cursor may stand
-pub pass-done : {f : List ℕ → List ℕ} (s : List ℕ) (b : Bits) {list : List ℕ} {old : List ℕ} {at : ℕ} {new : List ℕ} {here to : ℕ} (sel : Selection) (c d : Cursor) → lazy sel ≡ true
-    → Passing f (slot_of s b) b.len c.place old at new here to → d.place ≡ to → Passed f sel (kept_by sel s b) b.len list c old at new here d
-pass-done {f} s b {list} {old} {at} {new} {here} {to} sel c d e k q =
+-- up to where the blocks of the mask's words may stand
+pub pass-done : {f : List ℕ → List ℕ} {source : Source} {s t : Blocks} {old : List ℕ} {at : ℕ} {new : List ℕ} {here : ℕ} → s.sel ≡ Words source → t.sel ≡ s.sel
+    → Passing f (slot_in source) source.bits.len s.place old at new here t.place → Passed f s old at new here t
+pass-done {t = t} is same k =
     let low = k.low in
-    let high = k.high in
-    let i : d.place ≤ b.len = omega arith in
-    record {
-      on = omega arith;
-      step = lazy-step sel d e i;
-      wrote = rw (q, lazy-kept sel s b e) k.wrote;
-    }
+    let words : t.sel ≡ Words _ = same ∙ is in
+    record { same = same; on = low; step = record { inside = rw words k.high; agrees = rw words tt }; wrote = rw is k.wrote }
 
 -- ---- for the loop over blocks
 
-module _ {f : List ℕ → List ℕ} (cut : Cuts f) {sel : Selection} {p : ℕ → Bool} {len : ℕ} {list old : List ℕ} {at : ℕ} {new : List ℕ} {here : ℕ} {cur : Cursor}
-    (w : Walked f sel p len list old at new here cur) where
-  -- all that is left fits
-  pub walk-fits : at + length (f (picks_from p len 0)) ≤ length old → here + length (f (picks_on p len cur.place)) ≤ length new
-  walk-fits fit = room (f (picks_on p len cur.place)) [] w.left (sym (append-nil (f (picks_on p len cur.place)))) fit
-
-  pub walk-on : {last : List ℕ} {next : ℕ} {d : Cursor} → Passed f sel p len list cur new here last next d → Walked f sel p len list old at last next d
-  walk-on {d = d} q =
-      record {
-        step = q.step;
-        left = less w.left (ap f (picks-upto p len cur.place d.place q.on q.step.inside) ∙ cut.parts _ _) q.wrote;
-      }
+pub walk-on : {f : List ℕ → List ℕ} (cut : Cuts f) {sel : Selection} {old : List ℕ} {at : ℕ} {new : List ℕ} {here : ℕ} {s : Blocks} → Walked f sel old at new here s
+    → {last : List ℕ} {next : ℕ} {t : Blocks} → Passed f s new here last next t → Walked f sel old at last next t
+walk-on {f} cut {s = s} w {t = t} q =
+    let high : t.place ≤ reach s.sel = rw (← q.same) q.step.inside in
+    let rest : rows_left s ≡ picks_from (kept_by s.sel) (t.place - s.place) s.place ++ rows_left t =
+    rw q.same (picks-upto (kept_by s.sel) (reach s.sel) s.place t.place q.on high) in
+    record { same = q.same ∙ w.same; step = q.step; left = less w.left (ap f rest ∙ cut.parts _ _) q.wrote }

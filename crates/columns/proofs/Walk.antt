@@ -1,18 +1,17 @@
 -- A column block by block: each block of kept rows writes the first of what is left, and stays in step with the selection. Assumes nothing.
 use Prim.Native.Nat.{ℕ, ◌+◌, ◌≤◌}
-use mathlib.Core.Bool.{Bool}
-use mathlib.Core.List.{List, [], ◌++◌}
-use mathlib.Core.Path.{◌≡◌, refl, ap, ◌∙◌}
+use mathlib.Core.List.{List, [], ◌++◌, append-nil}
+use mathlib.Core.Path.{◌≡◌, refl, sym, ap, ◌∙◌}
 use lib.ListN.{length}
+use Rattle.std.specs.Prelude.{Some, None}
 use Rattle.format.specs.Put.{Wrote}
-use Rattle.format.specs.Slots.{picks_from}
 use Rattle.format.proofs.Put.{Left, whole, less, room, done, kept}
 use Rattle.predicate.specs.declared.Selection.{Selection}
-use Rattle.predicate.specs.declared.Cursor.{Cursor}
-use Rattle.predicate.specs.Selection.{picks_on, InStep, Holds, start}
-use Rattle.predicate.specs.Blocks.{Gives}
-use Rattle.predicate.proofs.Picks.{picks_start}
-use Rattle.predicate.proofs.Steps.{gives-below}
+use Rattle.predicate.specs.declared.Block.{Block}
+use Rattle.predicate.specs.declared.Blocks.{Blocks}
+use Rattle.predicate.specs.Selection.{selected, reach}
+use Rattle.predicate.specs.Blocks.{block_rows, rows_left, InStep, Begun, GivesBlock}
+use Rattle.predicate.proofs.Steps.{rows-start, step-start, block-below}
 use Rattle.append.specs.Cells.{Among}
 
 -- the bytes of rows are those of the first rows, and then those of the others
@@ -20,36 +19,40 @@ pub record Cuts (f : List ℕ → List ℕ) : Type 0 where
   pub none : f [] ≡ []
   pub parts : (xs ys : List ℕ) → f (xs ++ ys) ≡ f xs ++ f ys
 
--- of the bytes f of all kept rows, those of the rows from the cursor's place on are left to write
-pub record Walked (f : List ℕ → List ℕ) (sel : Selection) (p : ℕ → Bool) (len : ℕ) (list old : List ℕ) (at : ℕ) (new : List ℕ) (here : ℕ) (cur : Cursor) : Type 0 where
-  pub step : InStep sel p len list cur
-  pub left : Left old at (f (picks_from p len 0)) new here (f (picks_on p len cur.place))
+-- of the bytes f of all kept rows, those of the rows that the blocks have yet to give are left to write
+pub record Walked (f : List ℕ → List ℕ) (sel : Selection) (old : List ℕ) (at : ℕ) (new : List ℕ) (here : ℕ) (s : Blocks) : Type 0 where
+  pub same : s.sel ≡ sel
+  pub step : InStep s
+  pub left : Left old at (f (selected sel)) new here (f (rows_left s))
 
-module _ {f : List ℕ → List ℕ} {sel : Selection} {p : ℕ → Bool} {len : ℕ} {list old : List ℕ} {at : ℕ} where
-  pub walk_none : Holds sel p len list → Walked f sel p len list old at old at start
-  walk_none h = record { step = h; left = whole refl (ap f (picks_start p len)) }
+-- a block's rows are among all rows
+pub among : {P : ℕ → Type 0} {sel : Selection} {s t : Blocks} {block : Block} → s.sel ≡ sel → InStep s → GivesBlock s (Some block) t → P (reach sel) → Among P (block_rows block)
+among {sel = sel} same step g h = record { len = reach sel; below = rw (← same) (block-below step g); holds = h }
 
-  module _ {new : List ℕ} {here : ℕ} {cur : Cursor} (w : Walked f sel p len list old at new here cur) where
-    module _ (cut : Cuts f) {xs : List ℕ} {d : Cursor} (g : Gives sel p len list cur.place xs d) where
-      off : f (picks_on p len cur.place) ≡ f xs ++ f (picks_on p len d.place)
-      off = ap f g.rest ∙ cut.parts xs (picks_on p len d.place)
+module _ {f : List ℕ → List ℕ} {sel : Selection} {old : List ℕ} {at : ℕ} where
+  pub walk_none : {s : Blocks} → Begun sel s → Walked f sel old at old at s
+  walk_none b = record { same = b.0; step = step-start b; left = whole refl (ap f (rows-start b)) }
+
+  module _ {new : List ℕ} {here : ℕ} {s : Blocks} (w : Walked f sel old at new here s) where
+    module _ (cut : Cuts f) {block : Block} {t : Blocks} (g : GivesBlock s (Some block) t) where
+      off : f (rows_left s) ≡ f (block_rows block) ++ f (rows_left t)
+      off = ap f g.gives.1 ∙ cut.parts (block_rows block) (rows_left t)
 
       -- the bytes of a block's rows fit
-      pub walk-room : at + length (f (picks_from p len 0)) ≤ length old → here + length (f xs) ≤ length new
-      walk-room fit = room (f xs) (f (picks_on p len d.place)) w.left off fit
+      pub walk-room : at + length (f (selected sel)) ≤ length old → here + length (f (block_rows block)) ≤ length new
+      walk-room fit = room (f (block_rows block)) (f (rows_left t)) w.left off fit
 
       -- and were written
-      pub walk_more : {last : List ℕ} {next : ℕ} → Wrote new here (f xs) last next → Walked f sel p len list old at last next d
-      walk_more wrote = record { step = g.step; left = less w.left off wrote }
+      pub walk_more : {last : List ℕ} {next : ℕ} → InStep t → Wrote new here (f (block_rows block)) last next → Walked f sel old at last next t
+      walk_more step wrote = record { same = g.same ∙ w.same; step = step; left = less w.left off wrote }
+
+    -- all that is left fits
+    pub walk-fits : at + length (f (selected sel)) ≤ length old → here + length (f (rows_left s)) ≤ length new
+    walk-fits fit = room (f (rows_left s)) [] w.left (sym (append-nil (f (rows_left s)))) fit
 
     -- no row is left
-    pub walk-done : Cuts f → picks_on p len cur.place ≡ [] → Wrote old at (f (picks_from p len 0)) new here
-    walk-done cut e = done w.left (ap f e ∙ cut.none) refl
+    pub walk-done : {t : Blocks} → Cuts f → GivesBlock s None t → Wrote old at (f (selected sel)) new here
+    walk-done cut g = done w.left (ap f g.gives ∙ cut.none) refl
 
     pub walk_same : length new ≡ length old
     walk_same = kept w.left
-
--- a block's rows are among all rows
-pub among : {sel : Selection} {p : ℕ → Bool} {len : ℕ} {list : List ℕ} {from : ℕ} {xs : List ℕ} {d : Cursor} {P : ℕ → Type 0}
-    → Gives sel p len list from xs d → P len → Among P xs
-among {len = len} g h = record { len = len; below = gives-below g; holds = h }

@@ -30,6 +30,7 @@ pub fn bad_keys(s: &[u8], at: usize, w: u32, n: usize, limit: u32) -> bool
     requires { IsWidth w × (at + w * n ≤ length s.now) }
     ensures { result ≡ any_below (bad_key w s.now at limit) n }
 {
+    // What is chosen is a type, once a column: no closure can stand for it.
     match w {
         1 => bad_keys_of::<u8>(s, at, n, limit),
         2 => bad_keys_of::<u16>(s, at, n, limit),
@@ -87,6 +88,7 @@ pub fn bad_valid_keys(
     requires n_bound { (8 * bits + k + n ≤ 8 * length s.now) × (k + n < 2 ^ 63) }
     ensures { result ≡ any_below (bad_valid_key w s.now at limit bits k) n }
 {
+    // What is chosen is a type, once a column: no closure can stand for it.
     match w {
         1 => bad_valid_keys_of::<u8>(s, at, n, limit, bits, k),
         2 => bad_valid_keys_of::<u16>(s, at, n, limit, bits, k),

@@ -29,6 +29,7 @@ pub fn bad_runs(s: &[u8], at: usize, w: u32, n: usize, places: u32) -> bool
     requires { (one_of (2 ∷ 4 ∷ 8 ∷ []) w ≡ true) × (at + w * n ≤ length s.now) }
     ensures { result ≡ bad_runs_at w s.now at n places }
 {
+    // What is chosen is a type, once a column: no closure can stand for it.
     match w {
         2 => bad_runs_of::<u16>(s, at, n, places),
         4 => bad_runs_of::<u32>(s, at, n, places),

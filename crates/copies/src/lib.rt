@@ -65,18 +65,3 @@ pub fn copy(out: &mut [u8], at: usize, src: &[u8], from: usize, n: usize) -> usi
     }
     copy_short(out, at, src, from, n)
 }
-
-// An entry of any width: those of native columns and views as words.
-pub fn move_entry(out: &mut [u8], at: usize, src: &[u8], from: usize, width: usize) -> usize
-    requires { (at + width ≤ length out.old) × (from + width ≤ length src.now) }
-    ensures { Wrote out.old at (bytes_at src.now from width) out.new result }
-{
-    match width {
-        2 => words::move_bytes::<2>(out, at, src, from),
-        4 => words::move_bytes::<4>(out, at, src, from),
-        8 => words::move_bytes::<8>(out, at, src, from),
-        16 => words::move_bytes::<16>(out, at, src, from),
-        32 => words::move_bytes::<32>(out, at, src, from),
-        _ => copy(out, at, src, from, width),
-    }
-}

@@ -1,5 +1,5 @@
 -- Scratch filled node by node: the bitmaps of the children of the first n nodes stand one after another from the front. Assumes nothing.
-use Prim.Native.Nat.{ℕ, zero, suc, ◌+◌, ◌-◌, ◌*◌, ◌^◌, ◌≤◌, ◌<◌}
+use Prim.Native.Nat.{ℕ, zero, suc, ◌+◌, ◌-◌, ◌*◌, ◌/◌, ◌^◌, ◌≤◌, ◌<◌}
 use mathlib.Core.Bool.{Bool, true, false, cond, false≢true}
 use mathlib.Core.List.{List, [], ◌++◌}
 use mathlib.Core.Logic.{⊎_elim}
@@ -7,10 +7,10 @@ use mathlib.Core.Path.{◌≡◌, refl, sym, ap, ◌∙◌}
 use native.Mathlib.Nat.{eq-or-lt_of_le, add-suc, add-zero}
 use native.Mathlib.Numerals.{add-one}
 use native.Mathlib.Omega.{arith}
-use lib.ListN.{length, get_or, set}
-use lib.Seq.{get_or-set_same, get_or-set_other}
-use Rattle.format.specs.Bytes.{sum_below, bytes_for, packed}
-use Rattle.format.specs.Node.{node_count, rows, parent, child}
+use lib.ListN.{length, get_or, set, take}
+use lib.Seq.{get_or-set_same, get_or-set_other, get_or-take, length-take-le}
+use Rattle.format.specs.Bytes.{sum_below, bit_in, bytes_for, packed}
+use Rattle.format.specs.Node.{node_count, rows, child}
 use Rattle.format.specs.Slots.{slots_from}
 use Rattle.format.specs.Answer.{takes_scratch, scratch_needed}
 use Rattle.format.specs.Put.{Wrote}
@@ -59,6 +59,18 @@ module _ (t : ℕ → Bool) (n : ℕ) {old new : List ℕ} {at next : ℕ} (w : 
         inside = omega (arith, next-is);
         tells = λ j h. rw w.bytes (bit-put old at (packed (slots_from t n 0)) j (omega arith) (omega (arith, w.place)) ∙ bit-rows t n j h);
       }
+
+-- it is read in the front of the slice in which it ends
+front-bit : (s : List ℕ) (end k : ℕ) → k < 8 * end → bit_in (take end s) k ≡ bit_in s k
+unfolding bit_in
+front-bit s end k h = rw (get_or-take end s (k / 8) 0 (omega arith))
+
+front-map : {t : ℕ → Bool} {n at : ℕ} (s : List ℕ) (end : ℕ) → end ≤ length s → Bitmap t n s at end → Bitmap t n (take end s) at (length (take end s))
+front-map {at = at} s end fit map =
+    record {
+      inside = omega (arith, map.inside, length-take-le end s fit);
+      tells = λ j h. front-bit s end (8 * at + j) (omega (arith, map.inside)) ∙ map.tells j h;
+    }
 
 -- what is written behind it leaves it as it is
 bitmap-old : {t : ℕ → Bool} {n : ℕ} {old new bs : List ℕ} {start at next : ℕ} → Bitmap t n old start at → Wrote old at bs new next → Bitmap t n new start next
@@ -142,24 +154,22 @@ module _ {b : List ℕ} (s : Sound b) {i : ℕ} (h : i < node_count b) {u : Bool
       never k = false≢true (sym g ∙ asked ∙ k)
 
 -- what filling the next is given: the bitmaps before it
-pub filled-earlier : {b root old new places : List ℕ} {n at : ℕ} → Sound b → n ≤ node_count b → FilledTo b root n old new places at → Earlier b root n new places at
-filled-earlier {n = n} s h f = record { few = omega (arith, f.size, shares-few s n h, s.shape.few); bitmaps = f.bitmaps }
+pub filled-earlier : {b root old new places : List ℕ} {n at : ℕ} → Sound b → n ≤ node_count b → at ≤ length new → FilledTo b root n old new places at → Earlier b root n (take at new) places
+filled-earlier {new = new} {n = n} {at = at} s h fit f =
+    record { few = omega (arith, f.size, shares-few s n h, s.shape.few, length-take-le at new fit); bitmaps = λ p l k. front-map new at fit (f.bitmaps p l k) }
 
 -- ---- all of them
 
 wider : {t : ℕ → Bool} {n : ℕ} {s : List ℕ} {at end more : ℕ} → end ≤ more → Bitmap t n s at end → Bitmap t n s at more
 wider h m = record { inside = omega (arith, m.inside); tells = m.tells }
 
-pub filled-all : {b root old new places : List ℕ} {i at : ℕ} → Sound b → i ≡ node_count b → scratch_needed b ≤ length old → FilledTo b root i old new places at → Filled b root old new places
-filled-all {b} {root} {old} {new} {places} {i} {at} s e room f =
+pub filled-all : {b root old new places : List ℕ} {i at : ℕ} → i ≡ node_count b → scratch_needed b ≤ length old → FilledTo b root i old new places at → Filled b root old new places
+filled-all {b} {i = i} {at = at} e room f =
     let all : at ≤ scratch_needed b = omega (arith, f.size, part b i (omega arith)) in
     record {
       bytes = f.bytes;
       wrote = record { bytes = f.wrote.bytes; place = omega arith };
       size = omega (arith, f.wrote.place);
       fits = omega (arith, same_size f.wrote);
-      bitmaps = λ j some h k. wider all (child j (s.shape.only j some h (takes_one b (parent b j) (bitmap-takes b (parent b j) k))) k (omega (arith, s.shape.above j some)));
+      bitmaps = λ p l k. wider all (f.bitmaps p (omega arith) k);
     }
-  where
-    child : (j : ℕ) → j ≡ suc (parent b j) → takes_bitmap b (parent b j) ≡ true → parent b j < i → Bitmap (keeps b root j) (rows b j) new (get_or places j 0) at
-    child j q k l = rw q (f.bitmaps (parent b j) l k)

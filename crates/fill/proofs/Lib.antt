@@ -2,4 +2,3 @@
 pub mod Stored
 pub mod Reading
 pub mod Filling
-pub mod Taking

@@ -1,2 +1,3 @@
 -- What the contracts of this crate cite.
 pub mod Scratch
+pub mod Tells

@@ -1,26 +1,34 @@
 // The bitmaps of kept rows in scratch: for the child of each runs node and list a bit for each of its rows, whether it is kept.
 #![tactic(auto)]
 
-ghost use Rattle.std.specs.Prelude.{◌≡◌, cond, ◌+◌, ◌≤◌, ◌<◌, suc, length, replicate, take};
+ghost use Rattle.std.specs.Prelude.{◌≡◌, true, false, ◌+◌, ◌≤◌, ◌<◌, length, replicate};
 ghost use Rattle.format.specs.Bytes.{bytes_for, packed, over};
 ghost use Rattle.format.specs.Node.{node_count, rows};
 ghost use Rattle.format.specs.Slots.{slots_from};
-ghost use Rattle.format.specs.Put.{Wrote};
-ghost use Rattle.format.specs.Answer.{scratch_needed};
-ghost use Rattle.format.specs.Accepted.{Sound};
-ghost use Rattle.slots.specs.Source.{Lies};
-ghost use Rattle.nesting.specs.Rows.{keeps, hands_on, picks_of, Sifted, Table, Ready};
-ghost use Rattle.fill.specs.Scratch.{plain_bits, takes_bitmap, Taking, Earlier, Filled};
+ghost use Rattle.format.specs.Answer.{takes_scratch, scratch_needed};
+ghost use Rattle.nesting.specs.Rows.{keeps, by_offsets, hands_on, picks_in, Sifted};
+ghost use Rattle.fill.specs.Scratch.{plain_bits, takes_bitmap, Earlier, Filled};
+ghost use Rattle.fill.specs.Tells.{Tells};
 
+use journal::Journal;
 use list_marks::mark_lists;
-use nesting::table::{LIST32, RUNS, by_offsets, node_count, takes_scratch};
 use nesting::top::top_of;
+use nesting::{Counted, Handing, by_offsets, takes_scratch};
 use run_marks::fill_runs;
-use slots::Bits;
+use slots::{Bits, Source};
 use stretch_marks::fill_kept;
 
+// What tells the rows that a node keeps: they are the root's; a bitmap in scratch has them; or all are kept or none, as of the child of a node that
+// carries its children: its number.
+#[derive(Clone, Copy)]
+pub enum Teller<'a> {
+    Root,
+    Bitmap(Source<'a>),
+    Carried(usize),
+}
+
 // So many rows from byte `at` of a bitmap.
-pub fn plain_bits(at: usize, len: usize) -> Bits
+fn plain_bits(at: usize, len: usize) -> Bits
     ensures { result ≡ plain_bits at len }
 {
     Bits {
@@ -31,108 +39,90 @@ pub fn plain_bits(at: usize, len: usize) -> Bits
     }
 }
 
-// The bitmap of what runs node or list i hands on where it keeps the picked rows, from a place on; the next place.
-fn fill_picked(
-    mask: &[u8],
-    in_mask: bool,
-    bits: Bits,
-    journal: &[u8],
-    table: &[u32; 640],
+// What tells the rows that node i keeps, where it is not copied by the offsets of a list: struct and union hand on their own, and the child of a runs node
+// or list has its bitmap in scratch, from its place on.
+pub fn told_by<'a>(
+    counted: Counted<'a>,
+    places: &[usize; 64],
+    scratch: &'a [u8],
     i: usize,
-    scratch: &mut [u8],
-    at: usize,
-) -> usize
-    requires lies { Lies (cond in_mask mask.now (take at scratch.old)) bits }
-    requires taking { Taking journal.now table.now i }
-    requires sifted { Sifted (picks_of (cond in_mask mask.now (take at scratch.old)) bits) (rows journal.now i) }
-    requires i_in_bounds { at + bytes_for (rows journal.now (suc i)) ≤ length scratch.old }
-    ensures { Wrote scratch.old at (packed (slots_from (hands_on journal.now i (picks_of (cond in_mask mask.now (take at scratch.old)) bits)) (rows journal.now (suc i)) 0)) scratch.new result }
+) -> Teller<'a>
+    requires earlier { Earlier counted.journal.now.bytes.now (picks_in counted.source) i scratch.now places.now }
+    requires i_bound { (i < node_count counted.journal.now.bytes.now) × (by_offsets counted.journal.now.bytes.now i ≡ false) }
+    ensures { Tells counted.entry.journal.now.bytes.now (picks_in counted.entry.source) i result }
 {
-    let kind = table[10 * i];
-    if kind == RUNS {
-        return fill_runs(mask, in_mask, bits, journal, table, i, scratch, at);
+    let journal = counted.journal;
+    let top = top_of(journal, i);
+    if top == 0 {
+        return Teller::Root;
     }
-    if kind == LIST32 {
-        return mark_lists(mask, in_mask, bits, journal, table, i, 4, scratch, at);
+    if takes_scratch(journal, journal.parent(top)) {
+        let bits = plain_bits(places[top], journal.rows(top));
+        return Teller::Bitmap(Source {
+            bytes: scratch,
+            bits,
+        });
     }
-    mark_lists(mask, in_mask, bits, journal, table, i, 8, scratch, at)
+    Teller::Carried(top)
 }
 
-// The bitmap of the rows that the child of runs node or list i keeps. The rows of node i itself are told by the mask, or by the bitmap of
-// the node whose rows it keeps, which is filled already; under a carried child they are asked stretch by stretch.
-fn fill_next(
-    mask: &[u8],
-    bits: Bits,
-    journal: &[u8],
-    table: &[u32; 640],
-    parents: &[u32; 64],
-    counts: &[usize; 64],
-    places: &[usize; 64],
-    i: usize,
-    scratch: &mut [u8],
-    at: usize,
-) -> usize
-    requires lies { Lies mask.now bits × Ready journal.now (picks_of mask.now bits) table.now parents.now counts.now (i + 1) }
-    requires taking { Taking journal.now table.now i }
-    requires earlier { Earlier journal.now (picks_of mask.now bits) i scratch.old places.now at }
-    requires i_in_bounds { at + bytes_for (rows journal.now (i + 1)) ≤ length scratch.old }
-    ensures { Wrote scratch.old at (packed (slots_from (keeps journal.now (picks_of mask.now bits) (i + 1)) (rows journal.now (i + 1)) 0)) scratch.new result }
+// The bitmap of what runs node or list i hands on where it keeps the source's picked slots.
+fn fill_picked(source: Source, journal: &Journal, i: usize, region: &mut [u8])
+    requires takes { (takes_scratch journal.now.bytes.now i ≡ true) × (i < node_count journal.now.bytes.now) }
+    requires sifted { Sifted (picks_in source) (rows journal.now.bytes.now i) }
+    requires size { length region.old ≡ bytes_for (rows journal.now.bytes.now (i + 1)) }
+    ensures { region.new ≡ packed (slots_from (hands_on journal.now.bytes.now i (picks_in source.entry)) (rows journal.now.bytes.now (i + 1)) 0) }
 {
-    let t = top_of(journal, table, parents, i);
-    if t == 0 {
-        return fill_picked(mask, true, bits, journal, table, i, scratch, at);
+    match Handing::of(journal, i) {
+        Handing::Runs(runs) => fill_runs(source, runs, region),
+        Handing::List(list) => mark_lists(source, list, region),
+        // No other node takes scratch.
+        Handing::Rows | Handing::All => {}
     }
-    if takes_scratch(table[10 * (parents[t] as usize)]) {
-        let above = plain_bits(places[t], table[10 * t + 2] as usize);
-        return fill_picked(mask, false, above, journal, table, i, scratch, at);
+}
+
+// The bitmap of the rows that the child of runs node or list i keeps. Under a carried child they are asked stretch by stretch.
+fn fill_next(counted: Counted, places: &[usize; 64], front: &[u8], i: usize, region: &mut [u8])
+    requires known { i < counted.known }
+    requires takes { (takes_scratch counted.journal.now.bytes.now i ≡ true) × (i < node_count counted.journal.now.bytes.now) }
+    requires earlier { Earlier counted.journal.now.bytes.now (picks_in counted.source) i front.now places.now }
+    requires size { length region.old ≡ bytes_for (rows counted.journal.now.bytes.now (i + 1)) }
+    ensures { region.new ≡ packed (slots_from (keeps counted.entry.journal.now.bytes.now (picks_in counted.entry.source) (i + 1)) (rows counted.entry.journal.now.bytes.now (i + 1)) 0) }
+{
+    match told_by(counted, places, front, i) {
+        Teller::Root => fill_picked(counted.source, counted.journal, i, region),
+        Teller::Bitmap(above) => fill_picked(above, counted.journal, i, region),
+        Teller::Carried(_) => fill_kept(counted, i + 1, region),
     }
-    let child = i + 1;
-    fill_kept(
-        mask, bits, journal, table, parents, counts, child, scratch, at,
-    )
 }
 
 // Whether the child of node i has a bitmap in scratch: that of a runs node or list, unless it is copied by the list's own offsets.
-fn takes_bitmap(journal: &[u8], table: &[u32; 640], i: usize) -> bool
-    requires { Sound journal.now × Table journal.now table.now × (i < node_count journal.now) }
-    ensures { result ≡ takes_bitmap journal.now i }
+fn takes_bitmap(journal: &Journal, i: usize) -> bool
+    requires { i < node_count journal.now.bytes.now }
+    ensures { result ≡ takes_bitmap journal.now.bytes.now i }
 {
-    if takes_scratch(table[10 * i]) {
-        return !by_offsets(journal, table, i + 1);
-    }
-    false
+    takes_scratch(journal, i) && !by_offsets(journal, i + 1)
 }
 
 // The bitmaps of all children of runs nodes and lists that take one, one after another from the front; where each child's starts, and 0 for
 // the other nodes.
-pub fn fill_all(
-    mask: &[u8],
-    bits: Bits,
-    journal: &[u8],
-    table: &[u32; 640],
-    parents: &[u32; 64],
-    counts: &[usize; 64],
-    scratch: &mut [u8],
-) -> [usize; 64]
-    requires lies { Lies mask.now bits }
-    requires ready { Ready journal.now (picks_of mask.now bits) table.now parents.now counts.now (node_count journal.now) }
-    requires journal_in_bounds { scratch_needed journal.now ≤ length scratch.old }
-    ensures { Filled journal.now (picks_of mask.now bits) scratch.old scratch.new result }
+pub fn fill_all(counted: Counted, scratch: &mut [u8]) -> [usize; 64]
+    requires known { counted.known ≡ node_count counted.journal.now.bytes.now }
+    requires room { scratch_needed counted.journal.now.bytes.now ≤ length scratch.old }
+    ensures { Filled counted.entry.journal.now.bytes.now (picks_in counted.entry.source) scratch.old scratch.new result }
 {
+    let journal = counted.journal;
     let mut places = [0usize; 64];
-    let n = node_count(journal);
     let mut at: usize = 0;
-    let mut i: usize = 0;
-    while i < n {
-        let node = i;
-        i += 1;
-        if takes_bitmap(journal, table, node) {
-            let start = at;
-            at = fill_next(
-                mask, bits, journal, table, parents, counts, &places, node, scratch, start,
-            );
-            places[i] = start;
+    for i in 0..journal.node_count() {
+        if !takes_bitmap(journal, i) {
+            continue;
         }
+        let size = journal.rows(i + 1).div_ceil(8);
+        let (front, back) = scratch.split_at_mut(at);
+        fill_next(counted, &places, front, i, &mut back[..size]);
+        places[i + 1] = at;
+        at += size;
     }
     places
 }

@@ -28,17 +28,16 @@ use Rattle.format.proofs.Accepted.{sound}
 use Rattle.format.proofs.Returns.{returned-own, returned-refused, returned-done, mask-refused, count-refused, journal-refused, length-refused, list-refused, scratch-refused, output-refused, not-refused}
 use Rattle.format.proofs.Reasons.{own_answer-err}
 use Rattle.format.proofs.SlotLaws.{chosen-picks}
-use Rattle.pack.specs.Tree.{Parents}
-use Rattle.pack.proofs.Stack.{holds-none}
 use Rattle.slots.specs.declared.Bits.{Bits}
-use Rattle.slots.specs.Source.{slot_of, Lies}
+use Rattle.slots.specs.Source.{slot_of}
 use Rattle.slots.specs.Node.{bits_of}
 use Rattle.slots.proofs.Masked.{mask-picks}
+use Rattle.prepare.specs.Prepare.{Counted}
 use Rattle.prepare.proofs.Slips as mask
-use Rattle.nesting.specs.Rows.{picks_of, Ready, Table, Counts}
+use Rattle.predicate.specs.Entries.{entries_on}
+use Rattle.nesting.specs.Rows.{picks_of, Sifted}
 use Rattle.nesting.proofs.Picks.{picks-sifted, count-picks}
-use Rattle.select.specs.Routed.{Routed}
-use Rattle.filter.specs.Call.{Accepted, Listed, Roomy}
+use Rattle.filter.specs.Call.{Accepted, Listed}
 
 -- ---- a count that is not stated is not wrong
 
@@ -82,60 +81,49 @@ module _ (c : Call) (m : mask_verdict c.mask ≡ 0) where
 
 -- ---- both packs are accepted: 10 and 12
 
-module _ {c : Call} {bits : Bits} {kept : ℕ} (f : Accepted c bits kept) where
+module _ {c : Call} {bits : Bits} {kept : ℕ} (k : Counted c.mask bits kept) (f : Accepted c) where
   length-is : bits.len ≡ mask_length c.mask
   unfolding mask_length
-  length-is = rw f.mask.bits
+  length-is = rw k.bits
 
   pub long-mask : {n : ℕ} → n ≡ rows c.journal 0 → n < bits.len → Returned c (refused_for reason.TooLong Journal) c.output c.list c.scratch
   unfolding too_long
-  long-mask e h = returned-refused c reason.TooLong Journal (length-refused c f.mask.accepted f.right f.journal (lt-ltb (rows c.journal 0) (mask_length c.mask) (omega (arith, length-is))))
+  long-mask e h = returned-refused c reason.TooLong Journal (length-refused c k.accepted f.right f.journal (lt-ltb (rows c.journal 0) (mask_length c.mask) (omega (arith, length-is))))
 
   pub not-long : {n : ℕ} → n ≡ rows c.journal 0 → bits.len ≤ n → too_long c ≡ false
   unfolding too_long
   not-long e h = le-ltb (rows c.journal 0) (mask_length c.mask) (omega (arith, length-is))
 
-  pub short-list : {t : Bool} → too_long c ≡ false → t ≡ (c.asked && ltb (length c.list) (length (entries c.mask))) → t ≡ true → Returned c (refused_for reason.List Journal) c.output c.list c.scratch
+  pub short-list : too_long c ≡ false → (c.asked && ltb (length c.list) (length (entries c.mask))) ≡ true → Returned c (refused_for reason.List Journal) c.output c.list c.scratch
   unfolding list_short
-  short-list l q e = returned-refused c reason.List Journal (list-refused c f.mask.accepted f.right f.journal l (sym q ∙ e))
+  short-list l e = returned-refused c reason.List Journal (list-refused c k.accepted f.right f.journal l e)
 
-  pub route-is : {r : Route} → r ≡ Masks.route_of bits.len kept → r ≡ Masks.route c.mask
-  unfolding Masks.route mask_length
-  route-is q = q ∙ rw (f.mask.bits, f.mask.counted)
-
-  pub to-list : {r : Route} {t : Bool} → too_long c ≡ false → t ≡ (c.asked && ltb (length c.list) (length (entries c.mask))) → t ≡ false → r ≡ Masks.route_of bits.len kept → Listed c bits kept r
-  unfolding list_short
-  to-list l q e r = record { accepted = f; fits = l; roomy = sym q ∙ e; goes = route-is r }
+-- neither
+pub to-list : {c : Call} → Accepted c → too_long c ≡ false → (c.asked && ltb (length c.list) (length (entries c.mask))) ≡ false → Listed c
+unfolding list_short
+to-list f l e = record { accepted = f; fits = l; roomy = e }
 
 -- ---- the list is not short: 13 and 14
 
-module _ {c : Call} {bits : Bits} {kept : ℕ} {route : Route} (f : Listed c bits kept route) where
-  pub journal-sound : Sound c.journal
-  journal-sound = sound _ f.accepted.journal
-
-  pub bits-lie : Lies c.mask bits
-  bits-lie = mask.lies f.accepted.mask
-
+module _ {c : Call} {bits : Bits} {kept : ℕ} (k : Counted c.mask bits kept) (f : Listed c) where
   pub short-bits : bits.len ≤ rows c.journal 0
   unfolding too_long
-  short-bits = rw (length-is f.accepted) (ltb-false _ _ f.fits)
+  short-bits = rw (length-is k f.accepted) (ltb-false _ _ f.fits)
 
   -- the count is that of the rows that the bits pick
   pub kept-picks : kept ≡ length (picks_of c.mask bits)
-  kept-picks = mask.kept-is f.accepted.mask ∙ count-picks c.mask bits
+  kept-picks = mask.kept-is k ∙ count-picks c.mask bits
 
-  -- nothing is counted yet; the counts
-  pub ready-first : {table parents : List ℕ} → Table c.journal table → Parents c.journal parents → Ready c.journal (picks_of c.mask bits) table parents [] 0
-  ready-first t p =
-      record { sound = journal-sound; rooted = picks-sifted c.mask bits (rows c.journal 0) short-bits; tabled = t; above = p; counted = holds-none _ _ }
+  pub rooted : Sifted (picks_of c.mask bits) (rows c.journal 0)
+  rooted = picks-sifted c.mask bits (rows c.journal 0) short-bits
 
-  pub ready-all : {table parents counts : List ℕ} → Table c.journal table → Parents c.journal parents → Counts c.journal (picks_of c.mask bits) (node_count c.journal) counts
-      → Ready c.journal (picks_of c.mask bits) table parents counts (node_count c.journal)
-  ready-all t p n = record { sound = journal-sound; rooted = picks-sifted c.mask bits (rows c.journal 0) short-bits; tabled = t; above = p; counted = n }
+  route-is : Masks.route_of bits.len kept ≡ Masks.route c.mask
+  unfolding Masks.route mask_length
+  route-is = rw (k.bits, k.counted)
 
   -- the rows that the bits pick are the mask's
   picks-are : picks_of c.mask bits ≡ picks c.mask
-  picks-are = rw f.accepted.mask.bits (chosen-picks (slot_of c.mask (bits_of c.mask 0)) (rows c.mask 0) ∙ mask-picks c.mask)
+  picks-are = rw k.bits (chosen-picks (slot_of c.mask (bits_of c.mask 0)) (rows c.mask 0) ∙ mask-picks c.mask)
 
   extract-is : extract c.journal (picks_of c.mask bits) ≡ extract_of c
   unfolding extract_of
@@ -145,7 +133,7 @@ module _ {c : Call} {bits : Bits} {kept : ℕ} {route : Route} (f : Listed c bit
   unfolding scratch_short
   short-scratch e h =
       let a = f.accepted in
-      returned-refused c reason.Scratch Journal (scratch-refused c a.mask.accepted a.right a.journal f.fits f.roomy (lt-ltb (length c.scratch) (scratch_needed c.journal) (omega arith)))
+      returned-refused c reason.Scratch Journal (scratch-refused c k.accepted a.right a.journal f.fits f.roomy (lt-ltb (length c.scratch) (scratch_needed c.journal) (omega arith)))
 
   module _ {need size : ℕ} (en : need ≡ scratch_needed c.journal) (fills : need ≤ length c.scratch) (es : size ≡ length (extract c.journal (picks_of c.mask bits))) where
     not_short : scratch_short c ≡ false
@@ -158,15 +146,35 @@ module _ {c : Call} {bits : Bits} {kept : ℕ} {route : Route} (f : Listed c bit
     pub short-output : output_short (length c.output) size ≡ true → Returned c (refused_for reason.Output Journal) c.output c.list c.scratch
     short-output e =
         let a = f.accepted in
-        returned-refused c reason.Output Journal (output-refused c a.mask.accepted a.right a.journal f.fits f.roomy not_short (rw size_is at e))
+        returned-refused c reason.Output Journal (output-refused c k.accepted a.right a.journal f.fits f.roomy not_short (rw size_is at e))
 
     fine : output_short (length c.output) size ≡ false → refusal_of c ≡ unrefused
-    fine e = let a = f.accepted in not-refused c a.mask.accepted a.right a.journal f.fits f.roomy not_short (rw size_is at e)
+    fine e = let a = f.accepted in not-refused c k.accepted a.right a.journal f.fits f.roomy not_short (rw size_is at e)
+
+    -- the extract, the list and zeros over the fronts of what was lent
+    pub done : {route : Route} → route ≡ Masks.route_of bits.len kept → output_short (length c.output) size ≡ false → {o l s : List ℕ} → o ≡ extract c.journal (picks_of c.mask bits)
+        → l ≡ over (cond c.asked (entries_on route (slot_of c.mask bits) bits.len) []) c.list → s ≡ replicate need 0
+        → Returned c (done_with kept bits.len route size) (o ++ drop size c.output) l (s ++ drop need c.scratch)
+    unfolding over stores Masks.route mask_length
+    done g short eo el ez =
+        let r = returned-done c (fine short) in
+        record {
+          answered = rw (k.counted, length-is k f.accepted, g ∙ route-is, size_is) r.answered;
+          written = rw (eo, extract-is, size_is) r.written;
+          listed = rw (mask.entries-are k g) at el ∙ r.listed;
+          cleared = rw (ez, en) (rw length-replicate at r.cleared);
+        }
+
+-- ---- the list has room where it is asked for
+
+pub list-room : {c : Call} {bits : Bits} {kept : ℕ} {route : Route} → Counted c.mask bits kept → route ≡ Masks.route_of bits.len kept → Listed c → c.asked ≡ true → length (entries_on route (slot_of c.mask bits) bits.len) ≤ length c.list
+unfolding list_short
+list-room {c} k g f e = rw (mask.entries-are k g) (ltb-false _ _ (rw e at f.roomy))
 
 -- ---- there is room for all
 
 -- both parts of 14 are false
-fits-room : (room size : ℕ) → output_short room size ≡ false → size ≤ room
+pub fits-room : (room size : ℕ) → output_short room size ≡ false → size ≤ room
 unfolding output_short
 fits-room room size e = go (ltb room size) refl e
   where
@@ -174,38 +182,10 @@ fits-room room size e = go (ltb room size) refl e
     go true q e = let z : ◌≡◌ {A = ℕ} 0 1 = cc in absurd (omega arith)
     go false q e = ltb-false _ _ q
 
-fits-pack : (room size : ℕ) → output_short room size ≡ false → size ≤ pack_limit
+pub fits-pack : (room size : ℕ) → output_short room size ≡ false → size ≤ pack_limit
 unfolding output_short
 fits-pack room size e = ltb-false _ _ (go (ltb room size) e)
   where
     go : (t : Bool) → (t || ltb pack_limit size) ≡ false → ltb pack_limit size ≡ false
     go true e = let z : ◌≡◌ {A = ℕ} 0 1 = cc in absurd (omega arith)
     go false e = e
-
-module _ {c : Call} {bits : Bits} {kept : ℕ} {route : Route} {table parents counts : List ℕ} {need size : ℕ} (f : Roomy c bits kept route table parents counts need size) where
-  pub size_fits : size ≤ length c.output
-  size_fits = fits-room _ _ f.fits
-
-  pub size_few : size ≤ pack_limit
-  size_few = fits-pack (length c.output) _ f.fits
-
-  pub routed : Routed c.mask bits route c.asked c.list
-  unfolding list_short
-  routed =
-      let a = f.listed.accepted.mask in
-      record { accepted = a.accepted; source = a.bits; goes = f.listed.goes; room = λ e. ltb-false _ _ (rw e at f.listed.roomy) }
-
-  -- the extract, the list and zeros over the fronts of what was lent
-  pub done : {o l s : List ℕ} → o ≡ extract c.journal (picks_of c.mask bits) → l ≡ over (cond c.asked (entries c.mask) []) c.list → s ≡ replicate need 0
-      → Returned c (done_with kept bits.len route size) (o ++ drop size c.output) l (s ++ drop need c.scratch)
-  unfolding over stores
-  done eo el es =
-      let a = f.listed in
-      let r = returned-done c (fine a f.needs f.fills f.sizes f.fits) in
-      let e = size_is a f.needs f.fills f.sizes in
-      record {
-        answered = rw (a.accepted.mask.counted, length-is a.accepted, a.goes, e) r.answered;
-        written = rw (eo, extract-is a, e) r.written;
-        listed = el ∙ r.listed;
-        cleared = rw (es, f.needs) (rw length-replicate at r.cleared);
-      }

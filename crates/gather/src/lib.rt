@@ -7,25 +7,10 @@ ghost use Rattle.format.specs.Bytes.{bytes_at};
 ghost use Rattle.format.specs.Put.{Wrote};
 ghost use Rattle.format.specs.Slots.{count_up};
 ghost use Rattle.append.specs.Cells.{entries_of, word_rows, Among, Entries};
+ghost use Rattle.gather.specs.Column.{entries_in};
 
 use append::rows::{ListRows, Rows};
 use words::SetRows;
-
-// The entries of rows a to e: one part of the buffer.
-pub fn copy_rows(
-    out: &mut [u8],
-    at: usize,
-    src: &[u8],
-    first: usize,
-    width: usize,
-    a: usize,
-    e: usize,
-) -> usize
-    requires { (a ≤ e) × (first + width * e ≤ length src.now) × (at + length (entries_of width src.now first (count_up (e - a) a)) ≤ length out.old) }
-    ensures { Wrote out.old at (entries_of width src.now first (count_up (e - a) a)) out.new result }
-{
-    copies::copy(out, at, src, first + width * a, width * (e - a))
-}
 
 // How many bytes an entry has: N, so that it is one load and one store, or any number.
 trait Width: Copy {
@@ -114,71 +99,61 @@ fn words_entries<W: Width>(
     here
 }
 
-// The entries at the set bits of words one after another, 64 rows each, by the width's own loop where it has one.
-pub fn gather_words(
-    out: &mut [u8],
-    at: usize,
-    src: &[u8],
-    first: usize,
-    width: usize,
-    base: usize,
-    words: &[u64],
-) -> usize
-    requires words_bound { base + 64 * (length words.now - 1) < 2 ^ 64 }
-    requires among { Among (Entries width src.now first) (word_rows base words.now) }
-    requires words_in_bounds { at + length (entries_of width src.now first (word_rows base words.now)) ≤ length out.old }
-    ensures { Wrote out.old at (entries_of width src.now first (word_rows base words.now)) out.new result }
-{
-    match width {
-        1 => words_entries(out, at, src, first, Fixed::<1>, base, words),
-        2 => words_entries(out, at, src, first, Fixed::<2>, base, words),
-        4 => words_entries(out, at, src, first, Fixed::<4>, base, words),
-        8 => words_entries(out, at, src, first, Fixed::<8>, base, words),
-        16 => words_entries(out, at, src, first, Fixed::<16>, base, words),
-        32 => words_entries(out, at, src, first, Fixed::<32>, base, words),
-        _ => words_entries(out, at, src, first, Any(width), base, words),
-    }
+// Entries of a width in a slice of bytes: row 0's stands at `first`.
+#[derive(Clone, Copy)]
+pub struct Column<'a> {
+    pub src: &'a [u8],
+    pub first: usize,
+    pub width: usize,
 }
 
-// The entries of rows, by the width's own loop where it has one.
-fn gather_rows<R: Rows>(
-    out: &mut [u8],
-    at: usize,
-    src: &[u8],
-    first: usize,
-    width: usize,
-    rows: R,
-) -> usize
-    requires among { Among (Entries width src.now first) (R.rows rows) }
-    requires rows_in_bounds { at + length (entries_of width src.now first (R.rows rows)) ≤ length out.old }
-    ensures { Wrote out.old at (entries_of width src.now first (R.rows rows)) out.new result }
-{
-    match width {
-        1 => entries(out, at, src, first, Fixed::<1>, rows),
-        2 => entries(out, at, src, first, Fixed::<2>, rows),
-        4 => entries(out, at, src, first, Fixed::<4>, rows),
-        8 => entries(out, at, src, first, Fixed::<8>, rows),
-        16 => entries(out, at, src, first, Fixed::<16>, rows),
-        32 => entries(out, at, src, first, Fixed::<32>, rows),
-        _ => entries(out, at, src, first, Any(width), rows),
+impl Column<'_> {
+    // The entries of rows a to e: one part of the slice.
+    pub fn copy_rows(self, out: &mut [u8], at: usize, a: usize, e: usize) -> usize
+        requires { (a ≤ e) × (self.first + self.width * e ≤ length self.src.now) × (at + length (entries_in self (count_up (e - a) a)) ≤ length out.old) }
+        ensures { Wrote out.old at (entries_in self.entry (count_up (e - a) a)) out.new result }
+    {
+        let Column { src, first, width } = self;
+        copies::copy(out, at, src, first + width * a, width * (e - a))
     }
-}
 
-// The entries of the rows that entries i to j of a list name.
-pub fn gather_list(
-    out: &mut [u8],
-    at: usize,
-    src: &[u8],
-    first: usize,
-    width: usize,
-    list: &[u32],
-    i: usize,
-    j: usize,
-) -> usize
-    requires i_le_j { (i ≤ j) × (j ≤ length list.now) }
-    requires among { Among (Entries width src.now first) (bytes_at list.now i (j - i)) }
-    requires i_in_bounds { at + length (entries_of width src.now first (bytes_at list.now i (j - i))) ≤ length out.old }
-    ensures { Wrote out.old at (entries_of width src.now first (bytes_at list.now i (j - i))) out.new result }
-{
-    gather_rows(out, at, src, first, width, ListRows::new(&list[i..j]))
+    // The entries at the set bits of words one after another, 64 rows each, by the width's own loop where it has one. What is chosen is a type, so that an
+    // entry is one load and one store: a closure or a `dyn` would be called for each.
+    pub fn gather_words(self, out: &mut [u8], at: usize, base: usize, words: &[u64]) -> usize
+        requires words_bound { base + 64 * (length words.now - 1) < 2 ^ 64 }
+        requires among { Among (Entries self.width self.src.now self.first) (word_rows base words.now) }
+        requires words_in_bounds { at + length (entries_in self (word_rows base words.now)) ≤ length out.old }
+        ensures { Wrote out.old at (entries_in self.entry (word_rows base words.now)) out.new result }
+    {
+        let Column { src, first, width } = self;
+        match width {
+            1 => words_entries(out, at, src, first, Fixed::<1>, base, words),
+            2 => words_entries(out, at, src, first, Fixed::<2>, base, words),
+            4 => words_entries(out, at, src, first, Fixed::<4>, base, words),
+            8 => words_entries(out, at, src, first, Fixed::<8>, base, words),
+            16 => words_entries(out, at, src, first, Fixed::<16>, base, words),
+            32 => words_entries(out, at, src, first, Fixed::<32>, base, words),
+            _ => words_entries(out, at, src, first, Any(width), base, words),
+        }
+    }
+
+    // The entries of the rows that a list names, by the width's own loop where it has one.
+    pub fn gather_list(self, out: &mut [u8], at: usize, list: &[u32]) -> usize
+        requires among { Among (Entries self.width self.src.now self.first) list.now }
+        requires rows_in_bounds { at + length (entries_in self list.now) ≤ length out.old }
+        ensures { Wrote out.old at (entries_in self.entry list.now) out.new result }
+    {
+        let Column { src, first, width } = self;
+        let rows = ListRows::new(list);
+        // A type is chosen here too.
+        match width {
+            1 => entries(out, at, src, first, Fixed::<1>, rows),
+            2 => entries(out, at, src, first, Fixed::<2>, rows),
+            4 => entries(out, at, src, first, Fixed::<4>, rows),
+            8 => entries(out, at, src, first, Fixed::<8>, rows),
+            16 => entries(out, at, src, first, Fixed::<16>, rows),
+            32 => entries(out, at, src, first, Fixed::<32>, rows),
+            _ => entries(out, at, src, first, Any(width), rows),
+        }
+    }
 }

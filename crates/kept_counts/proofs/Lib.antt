@@ -1,2 +1,2 @@
--- Laws of how many rows a node keeps.
-pub mod Counting
+-- Laws of counts of kept rows.
+mod Listed

@@ -2,5 +2,4 @@
 pub mod Nulls
 pub mod Texts
 pub mod DataBytes
-pub mod TextSpans
 pub mod Rooted

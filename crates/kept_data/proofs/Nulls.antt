@@ -1,21 +1,24 @@
 -- Nulls among a node's kept rows, row by row, and where their validity bits stand. Assumes nothing.
-use Prim.Native.Nat.{ℕ, zero, suc, ◌+◌, ◌*◌, ◌≤◌, ◌<◌}
+use Prim.Native.Nat.{ℕ, zero, suc, ◌+◌, ◌-◌, ◌*◌, ◌≤◌, ◌<◌}
 use mathlib.Core.Bool.{Bool, true, false, cond, not, ◌&&◌, ◌||◌, and-false, or_assoc, or-false}
 use mathlib.Core.List.{List, [], ◌∷◌, ◌++◌, map, map-append}
 use mathlib.Core.Path.{◌≡◌, refl, sym, ap, ◌∙◌}
+use native.Mathlib.Nat.{add_assoc}
 use native.Mathlib.Omega.{arith}
-use borrow.Author.Tests.{eq-eqb, ne_eqb}
-use lib.ListN.{get_or}
 use Rattle.format.specs.Bytes.{any_below, chosen, bit_in, bit_at}
-use Rattle.format.specs.Node.{node_count, rows, valid, validity_at, has_no_bitmap, no_bitmap}
+use Rattle.format.specs.Node.{node_count, rows, skip, valid, validity_at, has_no_bitmap}
+use Rattle.format.specs.Slots.{All, word_from}
+use Rattle.format.proofs.SlotLaws.{all-less}
+use Rattle.format.proofs.WordLaws.{from_all}
 use Rattle.format.specs.Verdict.{pack_limit}
 use Rattle.format.specs.Kept.{kept_rows}
+use Rattle.format.specs.Accepted.{Sound}
 use Rattle.format.specs.Write.{any_null}
 use Rattle.format.proofs.Laws.{any-miss, any_found}
-use Rattle.nesting.specs.Rows.{keeps, Ready}
-use Rattle.nesting.proofs.ByKind.{validity-at}
-use Rattle.nesting.proofs.Sieve.{skip_is}
+use Rattle.nesting.specs.declared.Counted.{Counted}
+use Rattle.nesting.specs.Rows.{picks_in}
 use Rattle.nesting.proofs.Tree.{kept-all}
+use Rattle.stretches.specs.Stretches.{bytes_in, kept_in}
 
 null-append : (xs ys : List Bool) → any_null (xs ++ ys) ≡ (any_null xs || any_null ys)
 unfolding any_null
@@ -45,41 +48,53 @@ module _ (p v : ℕ → Bool) where
     null-kept : (n : ℕ) → r < n → v r ≡ false → p r ≡ true → any_below (λ q. p q && not (v q)) n ≡ true
     null-kept n l h k = any_found (λ q. p q && not (v q)) n r l (rw (h, k))
 
+  -- valid rows all pass
+  pub null-valids : (k e : ℕ) → k ≤ e → All v true k e → any_below (λ q. p q && not (v q)) k ≡ false → any_below (λ q. p q && not (v q)) e ≡ false
+  null-valids k e l all none = go (e - k) e (omega arith) all
+    where
+      go : (d e : ℕ) → e ≡ k + d → All v true k e → any_below (λ q. p q && not (v q)) e ≡ false
+      go zero e z _ = let q : e ≡ k = omega arith in rw q none
+      go (suc d) e z all =
+          let q : e ≡ k + d + 1 = omega arith in
+          rw q (null-valid (k + d) (go d (k + d) refl (all-less (omega arith) all)) (all.at (k + d) (omega arith) (omega arith)))
+
 pub any-start : (p : ℕ → Bool) → any_below p 0 ≡ false
 unfolding any_below
 any-start p = refl
 
 -- a node with no bitmap has no null
-no-nulls : (b : List ℕ) (i : ℕ) (rs : List ℕ) → validity_at b i ≡ no_bitmap → any_null (map (valid b i) rs) ≡ false
-unfolding any_null valid has_no_bitmap
+pub no-nulls : (b : List ℕ) (i : ℕ) (rs : List ℕ) → has_no_bitmap b i ≡ true → false ≡ any_null (map (valid b i) rs)
+unfolding any_null valid
 no-nulls b i [] e = refl
-no-nulls b i (r ∷ rs) e = rw (eq-eqb (validity_at b i) no_bitmap e) (no-nulls b i rs e)
+no-nulls b i (r ∷ rs) e = rw e (no-nulls b i rs e)
 
 -- where row r's validity bit stands
-module _ {b root table parents counts : List ℕ} {node : ℕ} (ready : Ready b root table parents counts node) (h : node < node_count b) where
-  null-all : any_below (λ r. keeps b root node r && not (valid b node r)) (rows b node) ≡ any_null (map (valid b node) (kept_rows b root node))
-  null-all = sym (ap (λ (rs : List ℕ). any_null (map (valid b node) rs)) (kept-all b root ready.sound ready.rooted node h) ∙ null-any (keeps b root node) (valid b node) (rows b node))
+module _ {b : List ℕ} (sound : Sound b) {node : ℕ} (h : node < node_count b) (some : has_no_bitmap b node ≡ false) where
+  pub marks-fit : validity_at b node ≤ pack_limit
+  marks-fit = omega (arith, (sound.in_body node h).bitmap some, sound.shape.table, sound.shape.small)
 
-  pub null-none : (r : ℕ) → r ≡ rows b node → any_below (λ q. keeps b root node q && not (valid b node q)) r ≡ false → false ≡ any_null (map (valid b node) (kept_rows b root node))
+  pub valid-bit : {first : ℕ} → first ≡ 8 * validity_at b node + skip b node → (r : ℕ) → bit_in b (first + r) ≡ valid b node r
+  unfolding valid bit_at
+  valid-bit e r = rw (some, e) (ap (bit_in b) (add_assoc (8 * validity_at b node) (skip b node) r))
+
+  -- a word of ones: its rows are valid
+  pub word-valid : {first : ℕ} → first ≡ 8 * validity_at b node + skip b node → {x base : ℕ} → x ≡ word_from (bit_in b) 64 (first + base) → x ≡ 0xFFFF_FFFF_FFFF_FFFF → All (valid b node) true base (base + 64)
+  word-valid {first} e {base = base} w f =
+      let ones : All (bit_in b) true (first + base) (first + base + 64) = from_all (bit_in b) 64 (first + base) (rw (← w) (omega arith)) in
+      record { at = λ j l h. sym (valid-bit e j) ∙ ones.at (first + j) (omega arith) (omega arith) }
+
+-- of a node's kept rows
+module _ (counted : Counted) {node : ℕ} (h : node < node_count (bytes_in counted)) where
+  null-all : any_below (λ r. kept_in counted node r && not (valid (bytes_in counted) node r)) (rows (bytes_in counted) node) ≡ any_null (map (valid (bytes_in counted) node) (kept_rows (bytes_in counted) (picks_in counted.source) node))
+  null-all =
+      sym
+      (ap (λ (rs : List ℕ). any_null (map (valid (bytes_in counted) node) rs)) (kept-all (bytes_in counted) (picks_in counted.source) counted.ready.sound counted.ready.rooted node h)
+      ∙ null-any (kept_in counted node) (valid (bytes_in counted) node) (rows (bytes_in counted) node))
+
+  pub null-none : (r : ℕ) → r ≡ rows (bytes_in counted) node → any_below (λ q. kept_in counted node q && not (valid (bytes_in counted) node q)) r ≡ false
+      → false ≡ any_null (map (valid (bytes_in counted) node) (kept_rows (bytes_in counted) (picks_in counted.source) node))
   null-none r e f = sym (rw e at f) ∙ null-all
 
-  pub null-found : (r : ℕ) → r < rows b node → valid b node r ≡ false → keeps b root node r ≡ true → true ≡ any_null (map (valid b node) (kept_rows b root node))
-  null-found r l f k = sym (null-kept (keeps b root node) (valid b node) r (rows b node) l f k) ∙ null-all
-
-  marks-place : get_or table (10 * node + 5) 0 ≡ validity_at b node
-  marks-place = validity-at b ready.tabled node h
-
-  pub unmarked : get_or table (10 * node + 5) 0 ≡ no_bitmap → false ≡ any_null (map (valid b node) (kept_rows b root node))
-  unmarked e = sym (no-nulls b node (kept_rows b root node) (sym marks-place ∙ e))
-
-  pub has-bitmap : (get_or table (10 * node + 5) 0 ≡ no_bitmap → ⊥) → has_no_bitmap b node ≡ false
-  unfolding has_no_bitmap
-  has-bitmap f = ne_eqb (validity_at b node) no_bitmap (λ e. f (marks-place ∙ e))
-
-  module _ (some : has_no_bitmap b node ≡ false) where
-    pub marks-fit : get_or table (10 * node + 5) 0 ≤ pack_limit
-    marks-fit = rw marks-place (omega (arith, (ready.sound.in_body node h).bitmap some, ready.sound.shape.table, ready.sound.shape.small))
-
-    pub valid-bit : (r : ℕ) → bit_in b (8 * get_or table (10 * node + 5) 0 + get_or table (10 * node + 3) 0 + r) ≡ valid b node r
-    unfolding valid bit_at
-    valid-bit r = rw (some, marks-place, skip_is ready h) (ap (bit_in b) (omega arith))
+  pub null-found : (r : ℕ) → r < rows (bytes_in counted) node → valid (bytes_in counted) node r ≡ false → kept_in counted node r ≡ true
+      → true ≡ any_null (map (valid (bytes_in counted) node) (kept_rows (bytes_in counted) (picks_in counted.source) node))
+  null-found r l f k = sym (null-kept (kept_in counted node) (valid (bytes_in counted) node) r (rows (bytes_in counted) node) l f k) ∙ null-all

@@ -1,74 +1,97 @@
--- Data bytes of a node's kept rows, row by row, and where their offsets stand. Assumes nothing.
-use Prim.Native.Nat.{ℕ, zero, suc, ◌+◌, ◌-◌, ◌*◌, ◌≤◌, ◌<◌}
-use mathlib.Core.Bool.{true}
-use mathlib.Core.List.{List, map}
+-- Data bytes of rows of a node, by what lies between their offsets. Assumes nothing.
+use Prim.Native.Nat.{ℕ, suc, ◌+◌, ◌-◌, ◌*◌, ◌≤◌, ◌<◌}
+use mathlib.Core.Bool.{Bool, false}
+use mathlib.Core.List.{List, [], ◌∷◌, map}
 use mathlib.Core.Path.{◌≡◌, refl, sym, ap, ◌∙◌}
-use native.Mathlib.Numerals.{add-one}
-use native.Mathlib.Nat.{mul-add, mul-suc, mul-le-mul_left}
+use mathlib.Core.Logic.{dite}
+use native.Mathlib.Decide.{dec_le}
+use native.Mathlib.Nat.{zero-add, mul-add, mul-suc, mul-le-mul_left}
 use native.Mathlib.Omega.{arith}
-use lib.ListN.{length, get_or, length-take, length-drop}
+use lib.ListN.{length, length-append, length-take, length-drop}
 use Rattle.format.specs.Bytes.{chosen, join, bytes_at, le}
 use Rattle.format.specs.Node.{node_count, rows, skip, places, first_at, second_length, first_number}
-use Rattle.format.specs.Verdict.{pack_limit}
-use Rattle.format.specs.Kept.{own_bytes}
+use Rattle.format.specs.Rows.{Below, none, more}
+use Rattle.format.specs.Slots.{All}
+use Rattle.format.specs.Kept.{kept_rows, own_bytes}
 use Rattle.format.specs.Accepted.{Sound, Offsets}
-use Rattle.nesting.specs.Rows.{Ready, keeps}
-use Rattle.stretches.specs.Stretches.{Alike}
-use Rattle.stretches.proofs.Spanned.{bytes-spanned}
-use Rattle.nesting.proofs.ByKind.{first-at}
-use Rattle.nesting.proofs.Sieve.{skip_is}
+use Rattle.format.proofs.RowLaws.{below-picks}
+use Rattle.format.proofs.SlotLaws.{chosen-picks}
+use Rattle.nesting.specs.declared.Counted.{Counted}
+use Rattle.nesting.specs.Rows.{picks_in}
+use Rattle.nesting.proofs.Between.{chosen_more}
+use Rattle.nesting.proofs.ByKind.{rows-small}
+use Rattle.nesting.proofs.Tree.{kept-all}
+use Rattle.spans.specs.Spans.{offset_from, spans, Rises}
+use Rattle.spans.proofs.Spanned.{picks-le}
+use Rattle.spans.proofs.ByWords.{Laid, passed}
+use Rattle.stretches.specs.Stretches.{bytes_in, kept_in}
 
--- a row's own bytes are as many as its offsets say
-pub own-length : {b : List ℕ} {i w : ℕ} → Sound b → Offsets w b i → (r : ℕ) → r < rows b i → length (own_bytes w b i r) ≡ first_number w b i (r + 1) - first_number w b i r
-unfolding own_bytes bytes_at
-own-length s o r h =
-    rw (add-one r) (simp (length-take, length-drop) (omega (arith, o.rise r h, o.inside (suc r) h, o.data_lies, s.shape.table)))
+module _ {b : List ℕ} (sound : Sound b) {node : ℕ} (h : node < node_count b) {w first : ℕ} (e : first ≡ first_at b node + w * skip b node) (o : Offsets w b node) where
+  -- a row's own bytes are as many as its offsets say
+  own-length : (r : ℕ) → r < rows b node → length (own_bytes w b node r) ≡ first_number w b node (suc r) - first_number w b node r
+  unfolding own_bytes bytes_at
+  own-length r l = simp (length-take, length-drop) (omega (arith, o.rise r l, o.inside (suc r) l, o.data_lies, sound.shape.table))
 
--- the offset of row r, read where the node's first buffer has it
-module _ {b root table parents counts : List ℕ} {node : ℕ} (ready : Ready b root table parents counts node) (h : node < node_count b) {w : ℕ} (o : Offsets w b node) where
-  first-place : get_or table (10 * node + 6) 0 ≡ first_at b node
-  first-place = first-at b ready.tabled node h
-
-  pub first_fits : get_or table (10 * node + 6) 0 ≤ pack_limit
-  first_fits = rw first-place (omega (arith, o.lie, ready.sound.shape.table, ready.sound.shape.small))
-
-  pub offset-lies : (r : ℕ) → r ≤ rows b node → get_or table (10 * node + 6) 0 + w * get_or table (10 * node + 3) 0 + w * r + w ≤ length b
+  -- where its offset stands, and what it is
+  pub offset-lies : (r : ℕ) → r ≤ rows b node → first + w * r + w ≤ length b
   unfolding places
   offset-lies r l =
-      let up : w * (skip b node + r) ≤ w * (skip b node + rows b node) = mul-le-mul_left w (omega arith) in
-      let all : w * suc (skip b node + rows b node) ≡ w * (skip b node + rows b node) + w = mul-suc w (skip b node + rows b node) in
-      let parts : w * (skip b node + r) ≡ w * skip b node + w * r = mul-add w (skip b node) r in
-      rw (first-place, skip_is ready h) (omega (arith, o.lie, ready.sound.shape.table))
+      omega (
+        arith,
+        e,
+        mul-add w (skip b node) (rows b node),
+        mul-le-mul_left w l,
+        mul-suc w (skip b node + rows b node),
+        o.lie,
+        sound.shape.table,
+      )
 
-  pub offset_read : (r n : ℕ) → n ≡ le w b (get_or table (10 * node + 6) 0 + w * get_or table (10 * node + 3) 0 + w * r) → n ≡ first_number w b node r
-  unfolding first_number
-  offset_read r n e =
-      let parts : w * (skip b node + r) ≡ w * skip b node + w * r = mul-add w (skip b node) r in
-      e ∙ rw (first-place, skip_is ready h) (ap (le w b) (omega arith))
+  offset-is : (r : ℕ) → offset_from w b first r ≡ first_number w b node r
+  unfolding offset_from first_number
+  offset-is r = ap (le w b) (let z : first + w * r ≡ first_at b node + w * (skip b node + r) = omega (arith, e, mul-add w (skip b node) r) in z)
 
-  pub offset-rises : (r : ℕ) → r < rows b node → first_number w b node r ≤ first_number w b node (r + 1)
-  offset-rises r l = rw (add-one r) (o.rise r l)
+  pub offsets-rise : Rises (offset_from w b first) (rows b node)
+  offsets-rise = record { next = λ r l. rw (offset-is r, offset-is (suc r)) (o.rise r l) }
 
-  pub offset-climbs : (r e : ℕ) → r ≤ e → e ≤ rows b node → first_number w b node r ≤ first_number w b node e
-  offset-climbs r e f l = go (e - r) e (omega arith) l
-    where
-      go : (d e : ℕ) → e ≡ r + d → e ≤ rows b node → first_number w b node r ≤ first_number w b node e
-      go zero e k l = let z : e ≡ r = omega arith in rw z (omega arith)
-      go (suc d) e k l = let z : e ≡ r + d + 1 = omega arith in rw z (omega (arith, go d (r + d) refl (omega arith), offset-rises (r + d) (omega arith)))
+  pub offsets-laid : {len : ℕ} → len ≤ rows b node → Laid w b first len
+  offsets-laid {len} l =
+      record {
+        small = omega (arith, rows-small sound node h);
+        inside = omega (arith, offset-lies len l, mul-suc w len);
+        mounts =
+            record {
+              up = record { next = λ r m. offsets-rise.next r (omega arith) };
+              fits = omega (arith, offset-is len, o.inside len l, o.data_lies, sound.shape.table, sound.shape.small);
+            };
+      }
 
-  pub offset-inside : (r : ℕ) → r ≤ rows b node → first_number w b node r ≤ second_length b node
-  offset-inside r l = o.inside r l
+  -- what rows span is their own bytes
+  spans-own : (rs : List ℕ) → Below (rows b node) rs → spans (offset_from w b first) rs ≡ length (join (map (own_bytes w b node) rs))
+  unfolding spans join
+  spans-own [] none = refl
+  spans-own (r ∷ rs) (more l g) =
+      let one : offset_from w b first (suc r) - offset_from w b first r ≡ length (own_bytes w b node r) = rw (offset-is (suc r), offset-is r) (sym (own-length r l)) in
+      rw (length-append (own_bytes w b node r), one, spans-own rs g)
 
-  pub offset-small : (r : ℕ) → r ≤ rows b node → first_number w b node r ≤ pack_limit
-  offset-small r l = omega (arith, o.inside r l, o.data_lies, ready.sound.shape.table, ready.sound.shape.small)
+  -- picked rows have no more than the node
+  pub own-picked : (p : ℕ → Bool) (n : ℕ) → n ≤ rows b node
+      → (spans (offset_from w b first) (chosen p n) ≡ length (join (map (own_bytes w b node) (chosen p n)))) × (spans (offset_from w b first) (chosen p n) ≤ second_length b node)
+  own-picked p n l =
+      let below : Below (rows b node) (chosen p n) = rw (chosen-picks p n) (below-picks p (rows b node) n 0 (omega arith)) in
+      let few = rw (zero-add n) at (picks-le (offset_from w b first) (rows b node) offsets-rise p n 0 (omega arith)) in
+      let all : spans (offset_from w b first) (chosen p n) ≤ offset_from w b first n = rw (chosen-picks p n) (omega (arith, few)) in
+      (spans-own (chosen p n) below, omega (arith, all, offset-is n, o.inside n l))
 
-  -- the bytes of a stretch of kept rows
-  module _ {r e n x y : ℕ} (ex : x ≡ first_number w b node e) (ey : y ≡ first_number w b node r) (q : n ≡ length (join (map (own_bytes w b node) (chosen (keeps b root node) r)))) (a : Alike (keeps b root node) r (rows b node) true e) where
-    spanned : (first_number w b node r ≤ first_number w b node e) × (n + (first_number w b node e - first_number w b node r) ≡ length (join (map (own_bytes w b node) (chosen (keeps b root node) e))))
-    spanned = bytes-spanned (keeps b root node) (own_bytes w b node) (first_number w b node) offset-rises (λ k l. sym (own-length ready.sound o k l)) q a
+-- a node's kept rows
+module _ (counted : Counted) {node : ℕ} (h : node < node_count (bytes_in counted)) {w first : ℕ} (e : first ≡ first_at (bytes_in counted) node + w * skip (bytes_in counted) node) (o : Offsets w (bytes_in counted) node) where
+  pub own-kept : (spans (offset_from w (bytes_in counted) first) (kept_rows (bytes_in counted) (picks_in counted.source) node)
+      ≡ length (join (map (own_bytes w (bytes_in counted) node) (kept_rows (bytes_in counted) (picks_in counted.source) node))))
+      × (spans (offset_from w (bytes_in counted) first) (kept_rows (bytes_in counted) (picks_in counted.source) node) ≤ second_length (bytes_in counted) node)
+  own-kept =
+      let rooted = counted.ready.rooted in
+      rw (kept-all (bytes_in counted) (picks_in counted.source) counted.ready.sound rooted node h)
+      (own-picked counted.ready.sound h e o (kept_in counted node) (rows (bytes_in counted) node) (omega arith))
 
-    pub stretch-rises : y ≤ x
-    stretch-rises = omega (arith, spanned.0)
-
-    pub stretch-bytes : n + (x - y) ≡ length (join (map (own_bytes w b node) (chosen (keeps b root node) e)))
-    stretch-bytes = rw (ex, ey) spanned.1
+-- all words passed: no slot is picked from k up to n, nor from n on
+pub all-passed : (o : ℕ → ℕ) (p : ℕ → Bool) {k n m : ℕ} → All p false k n → ((j : ℕ) → n ≤ j → p j ≡ false) → m ≡ spans o (chosen p k) → m ≡ spans o (chosen p n)
+all-passed o p {k} {n} blank past e = dite (dec_le k n) (λ l. passed o l blank e) (λ l. e ∙ ap (spans o) (chosen_more p n k (omega arith) past))

@@ -1,168 +1,111 @@
 // Nulls among a node's kept rows, and the data bytes of those rows.
-ghost use Rattle.std.specs.Prelude.{◌≡◌, true, false, map, ◌∷◌, [], ◌≤◌, ◌<◌, length};
+ghost use Rattle.std.specs.Prelude.{◌≡◌, true, false, map, ◌∷◌, [], ◌+◌, ◌*◌, ◌≤◌, ◌<◌, length};
 ghost use Rattle.format.specs.Bytes.{join};
-ghost use Rattle.format.specs.Node.{node_count, rows, has_no_bitmap, valid, kind, second_length};
+ghost use Rattle.format.specs.Node.{node_count, rows, skip, validity_at, first_at, has_no_bitmap, valid, kind, second_length};
 ghost use Rattle.format.specs.Verdict.{one_of};
 ghost use Rattle.format.specs.Kept.{kept_rows, own_bytes, cells};
 ghost use Rattle.format.specs.Write.{any_null, data_length};
-ghost use Rattle.format.specs.Accepted.{Offsets};
-ghost use Rattle.slots.specs.Source.{Lies};
-ghost use Rattle.nesting.specs.Rows.{picks_of, Ready};
+ghost use Rattle.format.specs.Accepted.{Offsets as HasOffsets};
+ghost use Rattle.nesting.specs.Rows.{picks_in};
 
 use crate::root::{bytes_at_root, null_at_root};
-use nesting::table::NO_BITMAP;
+use format::Kind;
+use nesting::Counted;
 use nesting::top::at_root;
-use slots::Bits;
-use stretches::told::{none_told, told};
-use words::read_number;
+use spans::Offsets;
+use stretches::{KeptRuns, Stretches};
 
-// Kinds by number: bytes with offsets of 32 and of 64 bits.
-const BYTES32: u32 = 4;
-
-const BYTES64: u32 = 5;
-
-// Some kept row of a node with a bitmap is null: of each null row it is asked whether it is kept.
-fn null_by_stretches(
-    mask: &[u8],
-    bits: Bits,
-    journal: &[u8],
-    table: &[u32; 640],
-    parents: &[u32; 64],
-    counts: &[usize; 64],
-    node: usize,
-) -> bool
-    requires lies { Lies mask.now bits }
-    requires ready { Ready journal.now (picks_of mask.now bits) table.now parents.now counts.now node }
-    requires node_bound { (node < node_count journal.now) × (has_no_bitmap journal.now node ≡ false) }
-    ensures { result ≡ any_null (map (valid journal.now node) (kept_rows journal.now (picks_of mask.now bits) node)) }
+// Some kept row of a node whose validity bits stand from bit `first` on is null: of each null row it is asked whether it is kept. A word of rows that are
+// all valid costs one test.
+fn null_by_stretches(counted: Counted, node: usize, first: usize) -> bool
+    requires inside { node < node_count counted.journal.now.bytes.now }
+    requires known { node ≤ counted.known }
+    requires bitmap { has_no_bitmap counted.journal.now.bytes.now node ≡ false }
+    requires first { first ≡ 8 * validity_at counted.journal.now.bytes.now node + skip counted.journal.now.bytes.now node }
+    ensures { result ≡ any_null (map (valid counted.entry.journal.now.bytes.now node) (kept_rows counted.entry.journal.now.bytes.now (picks_in counted.entry.source) node)) }
 {
-    let len = table[10 * node + 2] as usize;
-    let first = 8 * (table[10 * node + 5] as usize) + table[10 * node + 3] as usize;
-    let mut seen = none_told();
-    let mut r: usize = 0;
-    while r < len {
-        let row = r;
-        r += 1;
-        if slots::bit(journal, first + row) {
+    let bytes = counted.journal.bytes;
+    let rows = counted.journal.rows(node);
+    let mut stretches = Stretches::new(counted);
+    for w in 0..rows.div_ceil(64) {
+        let base = 64 * w;
+        if slots::load64(bytes, first + base) == u64::MAX {
             continue;
         }
-        let s = told(
-            mask, bits, journal, table, parents, counts, &mut seen, node, row,
-        );
-        if s.kept {
-            return true;
+        for row in base..rows.min(base + 64) {
+            if !slots::bit(bytes, first + row) && stretches.told(node, row).kept {
+                return true;
+            }
         }
     }
     false
 }
 
 // Some kept row of the node is null.
-pub fn any_null(
-    mask: &[u8],
-    bits: Bits,
-    journal: &[u8],
-    table: &[u32; 640],
-    parents: &[u32; 64],
-    counts: &[usize; 64],
-    node: usize,
-) -> bool
-    requires lies { Lies mask.now bits }
-    requires ready { Ready journal.now (picks_of mask.now bits) table.now parents.now counts.now node }
-    requires node_bound { node < node_count journal.now }
-    ensures { result ≡ any_null (map (valid journal.now node) (kept_rows journal.now (picks_of mask.now bits) node)) }
+pub fn any_null(counted: Counted, node: usize) -> bool
+    requires inside { node < node_count counted.journal.now.bytes.now }
+    requires known { node ≤ counted.known }
+    ensures { result ≡ any_null (map (valid counted.entry.journal.now.bytes.now node) (kept_rows counted.entry.journal.now.bytes.now (picks_in counted.entry.source) node)) }
 {
-    let at = table[10 * node + 5];
-    if at == NO_BITMAP {
+    let Some(first) = counted.journal.marks(node) else {
         return false;
+    };
+    if at_root(counted.journal, node) {
+        return null_at_root(counted.source, counted.journal.bytes, first);
     }
-    if at_root(journal, table, parents, node) {
-        let first = 8 * (at as usize) + table[10 * node + 3] as usize;
-        return null_at_root(mask, bits, journal, first);
-    }
-    null_by_stretches(mask, bits, journal, table, parents, counts, node)
+    null_by_stretches(counted, node, first)
 }
 
-// How many data bytes the kept rows of a node with offsets of w bytes have, stretch by stretch.
-fn bytes_by_stretches(
-    mask: &[u8],
-    bits: Bits,
-    journal: &[u8],
-    table: &[u32; 640],
-    parents: &[u32; 64],
-    counts: &[usize; 64],
-    node: usize,
-    w: usize,
-) -> usize
-    requires lies { Lies mask.now bits }
-    requires ready { Ready journal.now (picks_of mask.now bits) table.now parents.now counts.now node }
-    requires node_bound { (node < node_count journal.now) × (one_of (2 ∷ 4 ∷ 8 ∷ []) w ≡ true) × Offsets w journal.now node }
-    ensures { (result ≡ length (join (map (own_bytes w journal.now node) (kept_rows journal.now (picks_of mask.now bits) node))))
-        × (result ≤ second_length journal.now node) }
+// How many data bytes the kept rows of a node have, run by run.
+fn bytes_by_runs(counted: Counted, node: usize, offsets: Offsets) -> usize
+    requires inside { node < node_count counted.journal.now.bytes.now }
+    requires known { node ≤ counted.known }
+    requires wide { one_of (2 ∷ 4 ∷ 8 ∷ []) offsets.width ≡ true }
+    requires first { offsets.first ≡ first_at counted.journal.now.bytes.now node + offsets.width * skip counted.journal.now.bytes.now node }
+    requires offsets { HasOffsets offsets.width counted.journal.now.bytes.now node }
+    ensures { (result ≡ length (join (map (own_bytes offsets.width counted.entry.journal.now.bytes.now node) (kept_rows counted.entry.journal.now.bytes.now (picks_in counted.entry.source) node))))
+        × (result ≤ second_length counted.entry.journal.now.bytes.now node) }
 {
-    let len = table[10 * node + 2] as usize;
-    let first = table[10 * node + 6] as usize + w * (table[10 * node + 3] as usize);
-    let mut seen = none_told();
+    let bytes = counted.journal.bytes;
     let mut n: usize = 0;
-    let mut r: usize = 0;
-    while r < len {
-        let row = r;
-        let s = told(
-            mask, bits, journal, table, parents, counts, &mut seen, node, row,
-        );
-        r = s.end;
-        if s.kept {
-            let end = read_number(journal, first + w * r, w) as usize;
-            n += end - read_number(journal, first + w * row, w) as usize;
-        }
+    for (from, to) in KeptRuns::new(counted, node) {
+        n += offsets.get(bytes, to) - offsets.get(bytes, from);
     }
     n
 }
 
-// The same: run by run where the node keeps the root's rows.
-fn text_bytes(
-    mask: &[u8],
-    bits: Bits,
-    journal: &[u8],
-    table: &[u32; 640],
-    parents: &[u32; 64],
-    counts: &[usize; 64],
-    node: usize,
-    w: usize,
-) -> usize
-    requires lies { Lies mask.now bits × (bits.len ≤ rows journal.now 0) }
-    requires ready { Ready journal.now (picks_of mask.now bits) table.now parents.now counts.now node }
-    requires node_bound { (node < node_count journal.now) × (one_of (2 ∷ 4 ∷ 8 ∷ []) w ≡ true) × Offsets w journal.now node }
-    ensures { (result ≡ length (join (map (own_bytes w journal.now node) (kept_rows journal.now (picks_of mask.now bits) node))))
-        × (result ≤ second_length journal.now node) }
+// The same by offsets of so many bytes: by the mask's words where the node keeps the root's rows.
+fn text_bytes(counted: Counted, node: usize, width: usize) -> usize
+    requires inside { node < node_count counted.journal.now.bytes.now }
+    requires known { node ≤ counted.known }
+    requires long { counted.source.bits.len ≤ rows counted.journal.now.bytes.now 0 }
+    requires wide { one_of (2 ∷ 4 ∷ 8 ∷ []) width ≡ true }
+    requires offsets { HasOffsets width counted.journal.now.bytes.now node }
+    ensures { (result ≡ length (join (map (own_bytes width counted.entry.journal.now.bytes.now node) (kept_rows counted.entry.journal.now.bytes.now (picks_in counted.entry.source) node))))
+        × (result ≤ second_length counted.entry.journal.now.bytes.now node) }
 {
-    if at_root(journal, table, parents, node) {
-        return bytes_at_root(mask, bits, journal, table, parents, counts, node, w);
+    let n = counted.journal.node(node);
+    let offsets = Offsets {
+        first: n.first_at as usize + width * (n.skip as usize),
+        width,
+    };
+    if at_root(counted.journal, node) {
+        return bytes_at_root(counted, node, offsets);
     }
-    bytes_by_stretches(mask, bits, journal, table, parents, counts, node, w)
+    bytes_by_runs(counted, node, offsets)
 }
 
 // How many data bytes the node's kept rows have.
-pub fn data_length(
-    mask: &[u8],
-    bits: Bits,
-    journal: &[u8],
-    table: &[u32; 640],
-    parents: &[u32; 64],
-    counts: &[usize; 64],
-    node: usize,
-) -> usize
-    requires lies { Lies mask.now bits × (bits.len ≤ rows journal.now 0) }
-    requires ready { Ready journal.now (picks_of mask.now bits) table.now parents.now counts.now node }
-    requires node_bound { node < node_count journal.now }
-    ensures { (result ≡ data_length (cells (kind journal.now node) journal.now node (kept_rows journal.now (picks_of mask.now bits) node)))
-        × (result ≤ length journal.now) }
+pub fn data_length(counted: Counted, node: usize) -> usize
+    requires inside { node < node_count counted.journal.now.bytes.now }
+    requires known { node ≤ counted.known }
+    requires long { counted.source.bits.len ≤ rows counted.journal.now.bytes.now 0 }
+    ensures { (result ≡ data_length (cells (kind counted.entry.journal.now.bytes.now node) counted.entry.journal.now.bytes.now node (kept_rows counted.entry.journal.now.bytes.now (picks_in counted.entry.source) node)))
+        × (result ≤ length counted.entry.journal.now.bytes.now) }
 {
-    let k = table[10 * node];
-    if k == BYTES32 {
-        return text_bytes(mask, bits, journal, table, parents, counts, node, 4);
+    match counted.journal.kind(node) {
+        Kind::Bytes32 => text_bytes(counted, node, 4),
+        Kind::Bytes64 => text_bytes(counted, node, 8),
+        _ => 0,
     }
-    if k == BYTES64 {
-        return text_bytes(mask, bits, journal, table, parents, counts, node, 8);
-    }
-    0
 }

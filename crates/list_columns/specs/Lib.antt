@@ -1,2 +1,3 @@
 -- The sizes of list rows that the writers' contracts name.
 pub mod Spans
+pub mod Lists

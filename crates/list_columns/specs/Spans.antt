@@ -9,8 +9,8 @@ unfoldable pub span_at : ℕ → List ℕ → ℕ → ℕ → ℕ → ℕ
 span_at w b first from r = cond (bit_in b (from + r)) (size (offset w b first) r) 0
 
 -- the child rows of the valid rows before row r: offsets by which a row's size is `span_at`, so that the laws of `Texts` hold of them
-unfoldable pub reach : ℕ → List ℕ → ℕ → ℕ → ℕ → ℕ
-reach w b first from r = sum_below (span_at w b first from) r
+unfoldable pub span_start : ℕ → List ℕ → ℕ → ℕ → ℕ → ℕ
+span_start w b first from r = sum_below (span_at w b first from) r
 
 -- the first n rows: their offsets lie in b, do not fall and are small, and so are the numbers of their bits
 pub record Spans (w : ℕ) (b : List ℕ) (first from n : ℕ) : Type 0 where

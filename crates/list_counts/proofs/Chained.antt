@@ -15,7 +15,7 @@ use Rattle.format.proofs.Laws.{kept-root}
 use Rattle.format.proofs.RowLaws.{up_none, below-chosen}
 use Rattle.format.proofs.SlotLaws.{length_up, up-cat}
 use Rattle.nesting.specs.Rows.{Sifted, AtList, Level}
-use Rattle.nesting.proofs.Lists.{kept_spans-append}
+use Rattle.nesting.proofs.ListRows.{kept_spans-append}
 use Rattle.nesting.proofs.ListAt.{list-spans, child-kept}
 use Rattle.spans.specs.Spans.{first_offset, offset_from, spans, Rises}
 use Rattle.spans.proofs.Spanned.{spans-run}
@@ -35,7 +35,7 @@ length-ranges e [] = refl
 length-ranges e (r ∷ rs) = rw (length-append, length_up, length-ranges e rs)
 
 -- a list without a bitmap: the child rows of neighbours are one range, from the first one's offset to the last one's
-module _ {b table : List ℕ} {w q : ℕ} (a : AtList b table w q) (plain : has_no_bitmap b q ≡ true) {first : ℕ} (place : first ≡ first_offset table w q) where
+module _ {b : List ℕ} {w q : ℕ} (a : AtList b w q) (plain : has_no_bitmap b q ≡ true) {first : ℕ} (place : first ≡ first_offset b w q) where
   abbrev o : ℕ → ℕ
   o = offset_from w b first
 

@@ -5,51 +5,25 @@
 ghost use Rattle.std.specs.Prelude.{◌≡◌, length};
 ghost use Rattle.format.specs.Node.{rows};
 ghost use Rattle.format.specs.Kept.{kept_spans};
-ghost use Rattle.slots.specs.Source.{Lies};
-ghost use Rattle.nesting.specs.Rows.{picks_of, Sifted, AtList};
+ghost use Rattle.nesting.specs.Rows.{picks_in, Sifted};
 
-use nesting::table::valid_rows;
-use slots::{Bits, Source};
-use spans::{first_offset, word_spans};
+use nesting::List;
+use scan::PickedWords;
+use slots::Source;
+use spans::Offsets;
 
 pub mod chain;
 
-// Lists one below another, innermost first: of list k at 2 k the place of its first offset, and behind that an offset's bytes. Room for 8, as deep as a pack may be.
-#[derive(Clone, Copy)]
-pub struct Levels {
-    pub at: [usize; 16],
-    pub count: usize,
-}
-
-// How many child rows the picked valid rows of list node i have, by offsets of w bytes.
-pub fn count_spans(
-    mask: &[u8],
-    bits: Bits,
-    journal: &[u8],
-    table: &[u32; 640],
-    i: usize,
-    w: usize,
-) -> usize
-    requires lies { Lies mask.now bits }
-    requires at_list { AtList journal.now table.now w i }
-    requires sifted { Sifted (picks_of mask.now bits) (rows journal.now i) }
-    ensures { result ≡ length (kept_spans w journal.now i (picks_of mask.now bits)) }
+// How many child rows the picked valid rows of a list have.
+pub fn count_spans(source: Source, list: List) -> usize
+    requires { Sifted (picks_in source) (rows list.journal.now.bytes.now list.node) }
+    ensures { result ≡ length (kept_spans list.entry.width list.entry.journal.now.bytes.now list.entry.node (picks_in source.entry)) }
 {
-    let first = first_offset(journal, table, w, i);
-    let source = Source { bytes: mask, bits };
-    let len = bits.len;
+    let offsets = Offsets::of(list);
     let mut n: usize = 0;
-    let mut k: usize = 0;
-    while 64 * k < len {
-        let x = source.word(k);
-        let base = 64 * k;
-        k += 1;
-        if x != 0 {
-            let kept = valid_rows(journal, table, w, i, base, x);
-            n += word_spans(journal, first, w, base, kept);
-        } else if k % scan::SPACING == 0 {
-            k = scan::blank_end(source, k);
-        }
+    for (base, word) in PickedWords::new(source) {
+        let kept = list.valid_rows(base, word);
+        n += offsets.word_spans(list.journal.bytes, base, kept);
     }
     n
 }

@@ -1,5 +1,3 @@
 -- Laws of the child rows of lists as a bitmap.
-pub mod Spans
-pub mod Rooted
-pub mod Parts
-pub mod Zeroed
+mod Spans
+mod Words

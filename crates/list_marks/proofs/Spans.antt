@@ -1,25 +1,24 @@
 -- The child rows of rows, by their offsets: a run's at once, a word's lowest run off, and those that the list keeps. Assumes nothing.
-use Prim.Native.Nat.{ℕ, zero, suc, ◌+◌, ◌-◌, ◌*◌, ◌^◌, ◌≤◌, ◌<◌}
+use Prim.Native.Nat.{ℕ, zero, suc, ◌+◌, ◌-◌, ◌≤◌, ◌<◌}
 use mathlib.Core.Bool.{Bool, true, false, cond, ◌&&◌, ◌||◌, or_assoc}
 use mathlib.Core.List.{List, [], ◌∷◌, ◌++◌, map}
 use mathlib.Core.Logic.{dite}
-use mathlib.Core.Path.{◌≡◌, refl, sym, ap, ap₂, ◌∙◌}
+use mathlib.Core.Path.{◌≡◌, refl, sym, ap, ◌∙◌}
 use native.Mathlib.Decide.{dec_le}
-use native.Mathlib.Nat.{add-zero, add-suc, suc-add, mul-suc, mul-le-mul_left}
+use native.Mathlib.Nat.{add-zero, add-suc, suc-add}
 use native.Mathlib.Omega.{arith}
-use lib.ListN.{length}
-use Rattle.format.specs.Bytes.{le, within, join}
+use Rattle.format.specs.Bytes.{within, join}
 use Rattle.format.specs.Rows.{set_rows, Below, more}
 use Rattle.format.specs.Slots.{pick, picks_from, count_up}
-use Rattle.format.specs.Node.{valid, first_number}
+use Rattle.format.specs.Node.{rows, valid, first_number}
 use Rattle.format.specs.Kept.{span_size, span}
 use Rattle.words.specs.Run.{LowestRun}
 use Rattle.words.proofs.Carry.{run-below, rest_below}
-use Rattle.nesting.specs.Rows.{between}
+use Rattle.nesting.specs.Rows.{between, AtList}
 use Rattle.nesting.proofs.Between.{between-append}
+use Rattle.nesting.proofs.ListAt.{list-spans, rise-to}
 use Rattle.marks.proofs.Tests.{within_in, within-before, within-past, within_none, within-join}
-use Rattle.spans.specs.Spans.{offset_from}
-use Rattle.list_marks.specs.Spans.{in_spans, Spanning}
+use Rattle.list_marks.specs.Spans.{in_spans}
 
 pub spans-append : (o : ℕ → ℕ) (xs ys : List ℕ) (x : ℕ) → in_spans o (xs ++ ys) x ≡ (in_spans o xs x || in_spans o ys x)
 unfolding in_spans
@@ -29,11 +28,6 @@ spans-append o (r ∷ rs) ys x = rw (spans-append o rs ys x) (sym (or_assoc (wit
 pub spans-none : (o : ℕ → ℕ) (rs : List ℕ) (x : ℕ) → rs ≡ [] → in_spans o rs x ≡ false
 unfolding in_spans
 spans-none o rs x e = ap (λ (q : List ℕ). in_spans o q x) e
-
-pub spans-as : (o u : ℕ → ℕ) → ((r : ℕ) → o r ≡ u r) → (rs : List ℕ) (x : ℕ) → in_spans o rs x ≡ in_spans u rs x
-unfolding in_spans
-spans-as o u e [] x = refl
-spans-as o u e (r ∷ rs) x = rw (e r, e (suc r), spans-as o u e rs x)
 
 -- no row has child rows from the last offset on
 pub spans-past : (o : ℕ → ℕ) (len top x : ℕ) → ((r : ℕ) → r ≤ len → o r ≤ top) → top ≤ x → (rs : List ℕ) → Below len rs → in_spans o rs x ≡ false
@@ -57,43 +51,24 @@ module _ (o : ℕ → ℕ) (len : ℕ) (up : (r : ℕ) → r < len → o r ≤ o
 
 -- ---- the rows of a word, its lowest run off
 
-module _ {w : ℕ} {b : List ℕ} {first base word from to rest room : ℕ} (h : LowestRun base word from to rest) (s : Spanning w b first (set_rows base word) room) where
-  inside : to ≤ s.len
-  inside = run-below h s.below
+module _ {b : List ℕ} {w i base word from to rest : ℕ} (a : AtList b w i) (h : LowestRun base word from to rest) (below : Below (rows b i) (set_rows base word)) where
+  pub run-inside : (from ≤ to) × (to ≤ rows b i)
+  run-inside = (omega (arith, h.filled), run-below h below)
 
-  pub run_small : (from < 2 ^ 64) × (to < 2 ^ 64)
-  run_small = (omega (arith, inside, s.few, h.filled), omega (arith, inside, s.few))
+  pub rest-inside : Below (rows b i) (set_rows base rest)
+  rest-inside = rest_below h below
 
-  pub run_lies : first + w * to + w ≤ length b
-  run_lies = omega (arith, s.lies, mul-suc w to, mul-suc w s.len, mul-le-mul_left w inside)
+  pub run-range : (first_number w b i from ≤ first_number w b i to) × (first_number w b i to ≤ rows b (suc i))
+  run-range = (rise-to a from to run-inside.0 run-inside.1, (list-spans a).inside to run-inside.1)
 
-  pub start-lies : first + w * from + w ≤ length b
-  start-lies =
-      let up : w * from ≤ w * to = mul-le-mul_left w (omega (arith, h.filled)) in
-      omega (arith, run_lies)
-
-  pub spanning-rest : Spanning w b first (set_rows base rest) room
-  spanning-rest = record { len = s.len; few = s.few; below = rest_below h s.below; lies = s.lies; rise = s.rise; inside = s.inside }
-
-  module _ {lo hi : ℕ} (el : lo ≡ le w b (first + w * from)) (eh : hi ≡ le w b (first + w * to)) where
-    last : from + (to - from) ≡ to
-    last = omega (arith, h.filled)
-
-    pub run-range : (lo ≤ hi) × (hi ≤ room)
-    unfolding offset_from
-    run-range =
-        let up = climbs (offset_from w b first) s.len s.rise (to - from) from (omega (arith, last, inside)) in
-        rw (el, eh) (rw last at up, s.inside to inside)
-
-    pub run-spans : (x : ℕ) → in_spans (offset_from w b first) (set_rows base word) x ≡ (within 0 lo hi x || in_spans (offset_from w b first) (set_rows base rest) x)
-    unfolding offset_from
-    run-spans x =
-        ap (λ (q : List ℕ). in_spans (offset_from w b first) q x) (h.rows)
-        ∙ spans-append (offset_from w b first) (count_up (to - from) from) (set_rows base rest) x
-        ∙ ap (◌|| in_spans (offset_from w b first) (set_rows base rest) x) (spans-run (offset_from w b first) s.len s.rise (to - from) from x (omega (arith, last, inside)) ∙ range)
-      where
-        range : within 0 (offset_from w b first from) (offset_from w b first (from + (to - from))) x ≡ within 0 lo hi x
-        range = ap₂ (λ (a c : ℕ). within 0 a c x) (sym el) (ap (offset_from w b first) last ∙ sym eh)
+  pub run-spans : (x : ℕ)
+      → in_spans (first_number w b i) (set_rows base word) x ≡ (within 0 (first_number w b i from) (first_number w b i to) x || in_spans (first_number w b i) (set_rows base rest) x)
+  run-spans x =
+      let last : from + (to - from) ≡ to = omega (arith, run-inside) in
+      ap (λ (q : List ℕ). in_spans (first_number w b i) q x) h.rows
+      ∙ spans-append (first_number w b i) (count_up (to - from) from) (set_rows base rest) x
+      ∙ ap (◌|| in_spans (first_number w b i) (set_rows base rest) x)
+      (spans-run (first_number w b i) (rows b i) (list-spans a).rise (to - from) from x (omega (arith, last, run-inside)) ∙ ap (λ (e : ℕ). within 0 (first_number w b i from) (first_number w b i e) x) last)
 
 -- ---- what a list hands on
 

@@ -37,6 +37,7 @@ fn prepares(rt: &impl Print, name: &str, slots: u8, bits: u8) -> io::Result<()> 
 }
 
 // By what a bitmap of 128 slots goes.
+// `stored` is what `by_route` is asked, as docs/FORMAT.md (6) asks it: no value stands beside it.
 fn bitmap_goes(rt: &impl Print, name: &str, count: usize, stored: bool) -> io::Result<()> {
     let way = if bitmaps::by_route(128, count, stored) {
         "by the route"

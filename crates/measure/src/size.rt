@@ -1,5 +1,5 @@
 // How long buffers are, from counts alone.
-ghost use Rattle.std.specs.Prelude.{◌≡◌, ◌^◌, ◌≤◌};
+ghost use Rattle.std.specs.Prelude.{◌≡◌, ◌+◌, ◌^◌, ◌≤◌};
 ghost use Rattle.format.specs.Bytes.{bytes_for, raised};
 ghost use Rattle.format.specs.Verdict.{layout, first_size, second_size};
 ghost use Rattle.format.specs.Size.{grown_if};
@@ -7,14 +7,16 @@ ghost use Rattle.format.specs.Size.{grown_if};
 use format::Kind;
 
 // How many bytes hold n bits.
+#[tactic(auto, unfolding(format::specs::Bytes::bytes_for))]
 pub fn bytes_for(n: usize) -> usize
     requires { n ≤ 2 ^ 40 }
-    ensures { result ≡ bytes_for n }
+    ensures { (result ≡ bytes_for n) × (result ≤ n) }
 {
     (n + 7) / 8
 }
 
 // A place raised to a multiple of 8.
+#[tactic(auto, unfolding(format::specs::Bytes::raised))]
 pub fn raise(n: usize) -> usize
     requires { n ≤ 2 ^ 40 }
     ensures { result ≡ raised n }
@@ -23,9 +25,10 @@ pub fn raise(n: usize) -> usize
 }
 
 // The body's length after a buffer, if it is there.
+#[tactic(auto, unfolding(format::specs::Bytes::raised, format::specs::Size::grown_if))]
 pub fn grow(at: usize, here: bool, len: usize) -> usize
     requires { (at ≤ 2 ^ 40) × (len ≤ 2 ^ 32) }
-    ensures { result ≡ grown_if at here len }
+    ensures { (result ≡ grown_if at here len) × (result ≤ at + 7 + len) }
 {
     if here {
         return raise(at) + len;
@@ -38,21 +41,8 @@ pub fn has_first(kind: Kind) -> bool
     ensures { result ≡ (layout kind).first }
 {
     match kind {
-        Kind::Bits => true,
-        Kind::Native => true,
-        Kind::Fixed => true,
-        Kind::Bytes32 => true,
-        Kind::Bytes64 => true,
-        Kind::Views => true,
-        Kind::Lists32 => true,
-        Kind::Lists64 => true,
-        Kind::Runs => true,
         Kind::Struct => false,
-        Kind::Union => true,
-        Kind::Dictionary => true,
-        Kind::Nested32 => true,
-        Kind::Nested64 => true,
-        Kind::Unknown => true,
+        _ => true,
     }
 }
 
@@ -60,68 +50,40 @@ pub fn has_second(kind: Kind) -> bool
     ensures { result ≡ (layout kind).second }
 {
     match kind {
-        Kind::Bits => false,
-        Kind::Native => false,
-        Kind::Fixed => false,
-        Kind::Bytes32 => true,
-        Kind::Bytes64 => true,
-        Kind::Views => false,
-        Kind::Lists32 => true,
-        Kind::Lists64 => true,
-        Kind::Runs => false,
-        Kind::Struct => false,
-        Kind::Union => false,
-        Kind::Dictionary => false,
-        Kind::Nested32 => false,
-        Kind::Nested64 => false,
-        Kind::Unknown => true,
+        Kind::Bytes32 | Kind::Bytes64 | Kind::Lists32 | Kind::Lists64 | Kind::Unknown => true,
+        _ => false,
     }
 }
 
 // The bytes of a first buffer, by kind, param, rows and runs.
+#[tactic(auto, unfolding(format::specs::Bytes::bytes_for))]
 pub fn first_size(kind: Kind, p: usize, n: usize, c: usize) -> usize
     requires { (p ≤ 1024) × (n ≤ 1_048_576) × (c ≤ 1_048_576) }
-    ensures { result ≡ first_size kind p n c }
+    ensures { (result ≡ first_size kind p n c) × (result ≤ 2 ^ 30) }
 {
     match kind {
         Kind::Bits => bytes_for(n),
-        Kind::Native => p * n,
-        Kind::Fixed => p * n,
-        Kind::Bytes32 => 4 * (n + 1),
-        Kind::Bytes64 => 8 * (n + 1),
+        Kind::Native | Kind::Fixed | Kind::Dictionary => p * n,
+        Kind::Bytes32 | Kind::Nested32 => 4 * (n + 1),
+        Kind::Bytes64 | Kind::Nested64 => 8 * (n + 1),
         Kind::Views => 16 * n,
         Kind::Lists32 => 4 * n,
         Kind::Lists64 => 8 * n,
         Kind::Runs => p * c,
-        Kind::Struct => 0,
         Kind::Union => n,
-        Kind::Dictionary => p * n,
-        Kind::Nested32 => 4 * (n + 1),
-        Kind::Nested64 => 8 * (n + 1),
-        Kind::Unknown => 0,
+        Kind::Struct | Kind::Unknown => 0,
     }
 }
 
 // The bytes of a second buffer, by kind, rows and data bytes.
 pub fn second_size(kind: Kind, n: usize, l: usize) -> usize
     requires { (n ≤ 1_048_576) × (l ≤ 2 ^ 30) }
-    ensures { result ≡ second_size kind n l }
+    ensures { (result ≡ second_size kind n l) × (result ≤ 2 ^ 30) }
 {
     match kind {
-        Kind::Bits => 0,
-        Kind::Native => 0,
-        Kind::Fixed => 0,
-        Kind::Bytes32 => l,
-        Kind::Bytes64 => l,
-        Kind::Views => 0,
+        Kind::Bytes32 | Kind::Bytes64 => l,
         Kind::Lists32 => 4 * n,
         Kind::Lists64 => 8 * n,
-        Kind::Runs => 0,
-        Kind::Struct => 0,
-        Kind::Union => 0,
-        Kind::Dictionary => 0,
-        Kind::Nested32 => 0,
-        Kind::Nested64 => 0,
-        Kind::Unknown => 0,
+        _ => 0,
     }
 }

@@ -1,45 +1,19 @@
--- What a node's kind by number says of what it hands on; the fields of a node as the array has them. Assumes nothing.
-use Prim.Native.Nat.{ℕ, ◌+◌, ◌*◌, ◌<◌, ◌≤◌}
+-- What a node's kind by number says of what it hands on; its rows are few. Assumes nothing.
+use Prim.Native.Nat.{ℕ, ◌<◌, ◌≤◌}
 use mathlib.Core.List.{List}
 use mathlib.Core.Path.{◌≡◌, refl, ap}
 use native.Mathlib.Omega.{arith}
-use lib.Dec.{lit≤}
-use lib.ListN.{get_or}
 use Rattle.format.specs.declared.Kind.{Kind}
 use Rattle.format.specs.declared.Kind.TheVariants.{Bits, Native, Fixed, Bytes32, Bytes64, Views, Lists32, Lists64, Runs, Struct, Union, Dictionary, Nested32, Nested64, Unknown}
-use Rattle.format.specs.Node.{node_count, kind_number, kind_of, kind, param, rows, skip, places, validity_at, first_at}
+use Rattle.format.specs.Node.{node_count, kind_number, kind_of, kind, rows, skip, places}
 use Rattle.format.specs.Accepted.{Sound, Shares, Carries, Nests, Inner}
 use Rattle.format.specs.Accepted as is
 use Rattle.format.proofs.Accepted.{number_of, number-kind, kind-number}
-use Rattle.nesting.specs.Rows.{Table}
-use Rattle.nesting.proofs.Arrays.{table-field}
 
 module _ (b : List ℕ) (i : ℕ) where
-  pub of_struct : kind_number b i ≡ 10 → Shares (kind b i)
-  unfolding kind_of
-  of_struct e = rw (kind-number b i 10 e) is.Shares.struct
-
-  pub of-union : kind_number b i ≡ 11 → Shares (kind b i)
-  unfolding kind_of
-  of-union e = rw (kind-number b i 11 e) is.Shares.union
-
   pub of-runs : kind_number b i ≡ 9 → kind b i ≡ Runs
   unfolding kind_of
   of-runs e = kind-number b i 9 e
-
-  pub of-bytes32 : kind_number b i ≡ 4 → kind b i ≡ Bytes32
-  unfolding kind_of
-  of-bytes32 e = kind-number b i 4 e
-
-  pub of-bytes64 : kind_number b i ≡ 5 → kind b i ≡ Bytes64
-  unfolding kind_of
-  of-bytes64 e = kind-number b i 5 e
-
-  pub is-bytes32 : kind b i ≡ Bytes32 → kind_number b i ≡ 4
-  is-bytes32 e = number-kind b i Bytes32 e (λ q. let z : ◌≡◌ {A = ℕ} 4 0 = ap number_of q in omega arith)
-
-  pub is-bytes64 : kind b i ≡ Bytes64 → kind_number b i ≡ 5
-  is-bytes64 e = number-kind b i Bytes64 e (λ q. let z : ◌≡◌ {A = ℕ} 5 0 = ap number_of q in omega arith)
 
   -- a node that hands on its own rows is known by its number
   pub not-shared : (kind_number b i ≡ 10 → ⊥) → (kind_number b i ≡ 11 → ⊥) → Shares (kind b i) → ⊥
@@ -97,31 +71,6 @@ module _ (b : List ℕ) (i : ℕ) where
   of_others (is.Inner.by_runs e) f m n g = absurd (f (number-kind b i Runs e (λ q. let z : ◌≡◌ {A = ℕ} 9 0 = ap number_of q in omega arith)))
   of_others (is.Inner.carried c) f m n g = c
   of_others (is.Inner.by_spans w s) f m n g = absurd (not-nested m n w s)
-
-module _ (b : List ℕ) {table : List ℕ} (t : Table b table) (i : ℕ) (h : i < node_count b) where
-  pub kind_at : get_or table (10 * i) 0 ≡ kind_number b i
-  unfolding kind_number
-  kind_at = table-field b t i 0 (10 * i) h (lit≤ tt) (omega arith)
-
-  pub param-at : get_or table (10 * i + 1) 0 ≡ param b i
-  unfolding param
-  param-at = table-field b t i 1 (10 * i + 1) h (lit≤ tt) refl
-
-  pub rows_at : get_or table (10 * i + 2) 0 ≡ rows b i
-  unfolding rows
-  rows_at = table-field b t i 2 (10 * i + 2) h (lit≤ tt) refl
-
-  pub skip_at : get_or table (10 * i + 3) 0 ≡ skip b i
-  unfolding skip
-  skip_at = table-field b t i 3 (10 * i + 3) h (lit≤ tt) refl
-
-  pub validity-at : get_or table (10 * i + 5) 0 ≡ validity_at b i
-  unfolding validity_at
-  validity-at = table-field b t i 5 (10 * i + 5) h (lit≤ tt) refl
-
-  pub first-at : get_or table (10 * i + 6) 0 ≡ first_at b i
-  unfolding first_at
-  first-at = table-field b t i 6 (10 * i + 6) h (lit≤ tt) refl
 
 -- rows and skip are small
 module _ {b : List ℕ} (s : Sound b) (i : ℕ) (h : i < node_count b) where

@@ -1,36 +1,18 @@
--- Entries that are copied by the offsets of the list above them: what the array of fields says of it, and which nodes are not such. Assumes nothing.
-use Prim.Native.Nat.{ℕ, zero, suc, ◌+◌, ◌*◌, ◌<◌}
-use mathlib.Core.Bool.{Bool, true, false, ◌&&◌, ◌||◌, false≢true}
+-- Entries that are copied by the offsets of the list above them: what it says of them, and which nodes are not such. Assumes nothing.
+use Prim.Native.Nat.{ℕ, zero, suc}
+use mathlib.Core.Bool.{Bool, true, false, ◌||◌, false≢true}
 use mathlib.Core.List.{List}
 use mathlib.Core.Logic.{◌⊎◌, inl, inr, ⊎_elim, dite}
 use mathlib.Core.Path.{◌≡◌, refl, ap, ◌∙◌}
 use native.Mathlib.Decide.{ℕ_discrete}
 use native.Mathlib.Omega.{arith}
 use borrow.Author.Tests.{eqb-true}
-use lib.Dec.{eqb}
-use lib.ListN.{get_or}
-use Rattle.format.specs.Node.{node_count, kind_number, of_kind, has_no_bitmap, no_bitmap, kind}
+use Rattle.format.specs.Node.{kind_number, of_kind, has_no_bitmap, kind}
 use Rattle.format.specs.Answer.{takes_scratch}
 use Rattle.format.specs.Accepted.{Shares}
 use Rattle.format.proofs.Accepted.{and_first, and_second}
-use Rattle.nesting.specs.Rows.{plain_list, plain_entries, by_offsets, Table, Level}
-use Rattle.nesting.proofs.ByKind.{kind_at, validity-at, not-shared}
-
--- as the array tells it
-module _ (b : List ℕ) {table : List ℕ} (t : Table b table) (p : ℕ) (h : suc p < node_count b) where
-  direct-after : {l e : Bool} → l ≡ ((eqb (get_or table (10 * p) 0) 13 || eqb (get_or table (10 * p) 0) 14) && eqb (get_or table (10 * p + 5) 0) no_bitmap)
-      → e ≡ ((eqb (get_or table (10 * suc p) 0) 2 || eqb (get_or table (10 * suc p) 0) 3) && eqb (get_or table (10 * suc p + 5) 0) no_bitmap)
-      → (l && e) ≡ by_offsets b (suc p)
-  unfolding by_offsets plain_list plain_entries of_kind has_no_bitmap
-  direct-after el ee =
-      rw (el, ee, kind_at b t p (omega arith), validity-at b t p (omega arith), kind_at b t (suc p) h, validity-at b t (suc p) h)
-
-pub direct_is : (b : List ℕ) {table : List ℕ} → Table b table → (p i : ℕ) → i ≡ suc p → i < node_count b
-    → {l e : Bool} → l ≡ ((eqb (get_or table (10 * p) 0) 13 || eqb (get_or table (10 * p) 0) 14) && eqb (get_or table (10 * p + 5) 0) no_bitmap)
-    → e ≡ ((eqb (get_or table (10 * i) 0) 2 || eqb (get_or table (10 * i) 0) 3) && eqb (get_or table (10 * i + 5) 0) no_bitmap) → (l && e) ≡ by_offsets b i
-direct_is b t p i next h el ee = rw next (direct-after b t p (rw next at h) el (rw next at ee))
-
--- ---- what it says
+use Rattle.nesting.specs.Rows.{plain_list, plain_entries, by_offsets, Level}
+use Rattle.nesting.proofs.ByKind.{not-shared}
 
 either : (x y : Bool) → (x || y) ≡ true → (x ≡ true) ⊎ (y ≡ true)
 either true y e = inl refl

@@ -1,5 +1,5 @@
--- The scratch needed, summed over the nodes by the table as numbers. Assumes nothing.
-use Prim.Native.Nat.{ℕ, ◌+◌, ◌*◌, ◌≤◌, ◌<◌}
+-- The scratch needed, summed over the nodes. Assumes nothing.
+use Prim.Native.Nat.{ℕ, ◌+◌, ◌≤◌, ◌<◌}
 use mathlib.Core.Bool.{Bool, true, false, cond, ◌||◌}
 use mathlib.Core.List.{List}
 use mathlib.Core.Path.{◌≡◌, refl, sym, ap, ◌∙◌}
@@ -8,7 +8,6 @@ use native.Mathlib.Numerals.{add-one}
 use native.Mathlib.Omega.{arith}
 use borrow.Author.Tests.{eqb-true}
 use lib.Dec.{eqb}
-use lib.ListN.{get_or}
 use Rattle.format.specs.Bytes.{bytes_for, sum_below}
 use Rattle.format.specs.Node.{node_count, rows, of_kind, kind_of, kind, kind_number, child}
 use Rattle.format.specs.Answer.{takes_scratch, scratch_needed}
@@ -16,8 +15,7 @@ use Rattle.format.specs.Accepted.{Sound, OneChild}
 use Rattle.format.specs.Accepted as is
 use Rattle.format.proofs.Laws.{sum_more}
 use Rattle.format.proofs.Accepted.{kind-number}
-use Rattle.nesting.specs.Rows.{Table}
-use Rattle.nesting.proofs.ByKind.{kind_at, rows_at, rows-small}
+use Rattle.nesting.proofs.ByKind.{rows-small}
 
 -- what node k takes
 abbrev pub share : List ℕ → ℕ → ℕ
@@ -41,27 +39,19 @@ takes_one b i e = go (eqb (kind_number b i) 9) refl (eqb (kind_number b i) 13) r
     go false p true q r = rw (kind-number b i 13 (eqb-true _ 13 q)) is.OneChild.nested32
     go false p false q r = rw (kind-number b i 14 (eqb-true _ 14 r)) is.OneChild.nested64
 
-module _ {b table : List ℕ} (s : Sound b) (t : Table b table) {i : ℕ} (h : i < node_count b) {u : Bool}
-    (asked : u ≡ (eqb (get_or table (10 * i) 0) 9 || eqb (get_or table (10 * i) 0) 13 || eqb (get_or table (10 * i) 0) 14)) where
-  pub takes-is : u ≡ takes_scratch b i
-  unfolding takes_scratch of_kind
-  takes-is = asked ∙ rw (kind_at b t i h)
-
-  module _ (e : u ≡ true) where
+module _ {b : List ℕ} (s : Sound b) {i : ℕ} (h : i < node_count b) where
+  module _ (e : takes_scratch b i ≡ true) where
     pub child-inside : i + 1 < node_count b
-    child-inside = rw (add-one i) (s.shape.next i h (takes_one b i (sym takes-is ∙ e)))
+    child-inside = rw (add-one i) (s.shape.next i h (takes_one b i e))
 
-    child-rows : get_or table (10 * (i + 1) + 2) 0 ≡ rows b (i + 1)
-    child-rows = rows_at b t (i + 1) child-inside
+    pub child-few : rows b (i + 1) ≤ 1_048_576
+    child-few = rows-small s (i + 1) child-inside
 
-    pub child-few : get_or table (10 * (i + 1) + 2) 0 ≤ 1_048_576
-    child-few = rw child-rows (rows-small s (i + 1) child-inside)
+    pub scratch-more : (n x : ℕ) → n ≡ sum_below (share b) i → x ≡ bytes_for (rows b (i + 1)) → n + x ≡ sum_below (share b) (i + 1)
+    scratch-more n x en ex = rw (en, ex, sum_more (share b) i, e, add-one i)
 
-    pub scratch-more : (n x : ℕ) → n ≡ sum_below (share b) i → x ≡ bytes_for (get_or table (10 * (i + 1) + 2) 0) → n + x ≡ sum_below (share b) (i + 1)
-    scratch-more n x en ex = rw (en, ex, child-rows, sum_more (share b) i, sym takes-is ∙ e, add-one i)
-
-  pub scratch-same : u ≡ false → (n : ℕ) → n ≡ sum_below (share b) i → n ≡ sum_below (share b) (i + 1)
-  scratch-same e n en = rw (en, sum_more (share b) i, sym takes-is ∙ e) (sym (add-zero (sum_below (share b) i)))
+  pub scratch-same : takes_scratch b i ≡ false → (n : ℕ) → n ≡ sum_below (share b) i → n ≡ sum_below (share b) (i + 1)
+  scratch-same e n en = rw (en, sum_more (share b) i, e) (sym (add-zero (sum_below (share b) i)))
 
 -- the share is small
 pub bytes-few : (n : ℕ) → n ≤ 1_048_576 → bytes_for n ≤ 1_048_576

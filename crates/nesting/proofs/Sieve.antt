@@ -1,5 +1,5 @@
 -- Loops over a node's rows that take up the kept ones: one row more, and all of them. Assumes nothing.
-use Prim.Native.Nat.{ℕ, ◌+◌, ◌*◌, ◌≤◌, ◌<◌}
+use Prim.Native.Nat.{ℕ, ◌+◌, ◌≤◌, ◌<◌}
 use mathlib.Core.Bool.{Bool, true, false, cond}
 use mathlib.Core.List.{List, [], ◌∷◌}
 use mathlib.Core.Path.{◌≡◌, refl, sym, ap}
@@ -7,33 +7,24 @@ use native.Mathlib.Numerals.{add-one}
 use native.Mathlib.Omega.{arith}
 use mir.Val.{bool_byte}
 use lib.Dec.{lit≤}
-use lib.ListN.{length, get_or, length-append}
+use lib.ListN.{length, length-append}
 use Rattle.format.specs.Bytes.{chosen}
 use Rattle.format.specs.Node.{node_count, rows, skip}
 use Rattle.format.specs.Kept.{kept_rows}
 use Rattle.nesting.specs.Rows.{keeps, Ready}
-use Rattle.nesting.proofs.ByKind.{rows_at, skip_at, rows-small, skip-small}
+use Rattle.nesting.proofs.ByKind.{rows-small, skip-small}
 use Rattle.nesting.proofs.Tree.{kept-all}
 
--- a node that is measured: its number is small, its rows stand in the table, and once they are all passed its kept rows are known
-module _ {b root table parents counts : List ℕ} {node : ℕ} (ready : Ready b root table parents counts node) (h : node < node_count b) where
+-- a node that is measured: its number and its rows are few, and once they are all passed its kept rows are known
+module _ {b root counts : List ℕ} {node : ℕ} (ready : Ready b root counts node) (h : node < node_count b) where
   pub node-few : node < 64
   node-few = omega (arith, ready.sound.shape.few)
-
-  pub len_is : get_or table (10 * node + 2) 0 ≡ rows b node
-  len_is = rows_at b ready.tabled node h
 
   pub len-few : rows b node ≤ 1_048_576
   len-few = rows-small ready.sound node h
 
-  pub len-fits : get_or table (10 * node + 2) 0 ≤ 1_048_576
-  len-fits = rw len_is len-few
-
-  pub skip_is : get_or table (10 * node + 3) 0 ≡ skip b node
-  skip_is = skip_at b ready.tabled node h
-
-  pub skip-fits : get_or table (10 * node + 3) 0 ≤ 1_048_576
-  skip-fits = rw skip_is (skip-small ready.sound node h)
+  pub skip-few : skip b node ≤ 1_048_576
+  skip-few = skip-small ready.sound node h
 
   pub all-rows : (r : ℕ) → r ≡ rows b node → chosen (keeps b root node) r ≡ kept_rows b root node
   all-rows r e = rw e (sym (kept-all b root ready.sound ready.rooted node h))

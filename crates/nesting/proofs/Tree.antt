@@ -19,7 +19,7 @@ use Rattle.format.proofs.Laws.{kept-root, kept-child}
 use Rattle.format.proofs.SpanLaws.{owned, kept_spans-are}
 use Rattle.nesting.specs.Rows.{between, keeps, hands_on, Sifted}
 use Rattle.nesting.proofs.Between.{sifted, sifted-cut}
-use Rattle.nesting.proofs.Runs.{carried-chosen}
+use Rattle.nesting.proofs.RunRows.{carried-chosen}
 
 pub one-of : {w : ℕ} {k : Kind} → Nests w k → OneChild k
 one-of is.Nests.nested32 = is.OneChild.nested32

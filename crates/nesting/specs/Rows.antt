@@ -1,12 +1,13 @@
 -- The kept rows of a node as a test, the question whether some of them lie in a range, and arrays filled node by node. Assumes nothing.
-use Rattle.std.specs.Prelude.{ℕ, zero, suc, ◌+◌, ◌-◌, ◌*◌, ◌≤◌, ◌<◌, min, Bool, true, false, ◌&&◌, ◌||◌, List, [], ◌∷◌, ◌≡◌, length}
-use Rattle.format.specs.Bytes.{le, chosen, within}
+use Rattle.std.specs.Prelude.{ℕ, zero, suc, ◌+◌, ◌-◌, ◌*◌, ◌≤◌, ◌<◌, min, Bool, true, false, cond, ◌&&◌, ◌||◌, Option, Some, None, List, [], ◌∷◌, ◌≡◌, length}
+use Rattle.format.specs.Bytes.{chosen, within}
 use Rattle.format.specs.declared.Kind.TheVariants.{Runs}
-use Rattle.format.specs.Node.{table_start, node_count, kind, of_kind, has_no_bitmap, rows, skip, run_start, parent}
+use Rattle.format.specs.Node.{node_count, kind, of_kind, validity_at, has_no_bitmap, rows, skip, run_start, parent}
 use Rattle.format.specs.Accepted.{Sound, Shares, Nests}
 use Rattle.slots.specs.declared.Bits.{Bits}
+use Rattle.slots.specs.declared.Source.{Source}
 use Rattle.slots.specs.Source.{slot_of}
-use Rattle.pack.specs.Tree.{Holds, Parents}
+use Rattle.pack.specs.Tree.{Holds}
 use Rattle.format.specs.Kept.{kept_rows, passed_on}
 
 -- some number of the list lies in [lo, hi)
@@ -17,6 +18,10 @@ between (x ∷ xs) lo hi = within 0 lo hi x || between xs lo hi
 -- the slots that a bit source picks, rising
 abbrev pub picks_of : List ℕ → Bits → List ℕ
 picks_of s b = chosen (slot_of s b) b.len
+
+-- the slots that a source picks, rising
+abbrev pub picks_in : Source → List ℕ
+picks_in source = picks_of source.bytes.now source.bits
 
 -- the list has exactly those numbers below n that it tells, rising
 pub record Sifted (xs : List ℕ) (n : ℕ) : Type 0 where
@@ -30,42 +35,31 @@ keeps b root i r = between (kept_rows b root i) r (suc r)
 unfoldable pub hands_on : List ℕ → ℕ → List ℕ → ℕ → Bool
 hands_on b p rs r = between (passed_on (kind b p) b p (suc p) rs) r (suc r)
 
--- the fields of all nodes, ten to a node, as the table has them
-abbrev pub Table : List ℕ → List ℕ → Type 0
-Table b = Holds (λ j. le 4 b (table_start b + 4 * j)) (10 * node_count b)
-
 -- of the first n nodes, how many rows each keeps
 abbrev pub Counts : List ℕ → List ℕ → ℕ → List ℕ → Type 0
 Counts b root = Holds (λ i. length (kept_rows b root i))
 
--- what is at hand while node n is measured: an accepted journal, rising row numbers of its root, its node table and parents as arrays, and
--- how many rows the nodes before n keep
-pub record Ready (b root table parents counts : List ℕ) (n : ℕ) : Type 0 where
+-- what is at hand while node n is measured: an accepted journal, rising row numbers of its root, and how many rows the nodes before n keep
+pub record Ready (b root counts : List ℕ) (n : ℕ) : Type 0 where
   pub sound : Sound b
   pub rooted : Sifted root (rows b 0)
-  pub tabled : Table b table
-  pub above : Parents b parents
   pub counted : Counts b root n counts
 
--- node i is a runs node of an accepted journal whose node table is at hand
-pub record AtRuns (b table : List ℕ) (i : ℕ) : Type 0 where
+-- node i is a runs node
+abbrev pub HasRuns : List ℕ → ℕ → Type 0
+HasRuns b i = kind b i ≡ Runs
+
+-- node i is a runs node of an accepted journal
+pub record AtRuns (b : List ℕ) (i : ℕ) : Type 0 where
   pub sound : Sound b
-  pub tabled : Table b table
   pub inside : i < node_count b
   pub is_runs : kind b i ≡ Runs
 
--- node i is a list with offsets of w bytes, of an accepted journal whose node table is at hand
-pub record AtList (b table : List ℕ) (w i : ℕ) : Type 0 where
+-- node i is a list with offsets of w bytes, of an accepted journal
+pub record AtList (b : List ℕ) (w i : ℕ) : Type 0 where
   pub sound : Sound b
-  pub tabled : Table b table
   pub inside : i < node_count b
   pub is_list : Nests w (kind b i)
-
--- the nodes of an accepted journal: its table and parents as arrays
-pub record Nodes (b table parents : List ℕ) : Type 0 where
-  pub sound : Sound b
-  pub tabled : Table b table
-  pub above : Parents b parents
 
 -- where the answer is true, the node keeps the root's rows, and has as many rows
 pub record AtRoot (b : List ℕ) (node : ℕ) (t : Bool) : Type 0 where
@@ -101,7 +95,6 @@ pub record Top (b : List ℕ) (node t : ℕ) : Type 0 where
 unfoldable pub edge : List ℕ → ℕ → ℕ → ℕ → ℕ
 edge b i len j = min (run_start b i j - skip b i) len
 
--- node i is a runs node that keeps the root's rows
-pub record RootRuns (b table : List ℕ) (i : ℕ) : Type 0 where
-  pub runs : AtRuns b table i
+-- node i keeps the root's rows
+pub record KeepsRoot (b : List ℕ) (i : ℕ) : Type 0 where
   pub same : (root : List ℕ) → kept_rows b root i ≡ root

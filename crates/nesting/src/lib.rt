@@ -1,6 +1,105 @@
-// The nodes of an accepted journal as numbers: the table, run ends and offsets, and the node whose rows a node keeps.
+// What the nodes of an accepted journal hand on to their children: rows, runs, or the child rows of lists; and the node whose rows a node keeps.
 #![tactic(auto)]
 
 pub mod edges;
-pub mod table;
+pub mod lists;
 pub mod top;
+
+ghost use Rattle.std.specs.Prelude.{◌≡◌, ◌<◌, length};
+ghost use Rattle.format.specs.Node.{node_count};
+ghost use Rattle.format.specs.Answer.{takes_scratch};
+ghost use Rattle.format.specs.Kept.{kept_rows};
+ghost use Rattle.nesting.specs.Rows.{plain_list, plain_entries, by_offsets, picks_in, Ready};
+ghost use Rattle.nesting.specs.Facts.{Ready-prop};
+ghost use Rattle.nesting.specs.Hands.{Hands};
+
+pub use edges::Runs;
+use format::Kind;
+use journal::Journal;
+pub use lists::List;
+use slots::Source;
+
+// What a node hands on to its children: its own rows, the runs in which it keeps a row, the child rows of its valid rows, or all rows of each child.
+#[derive(Clone, Copy)]
+pub enum Handing<'a> {
+    Rows,
+    Runs(Runs<'a>),
+    List(List<'a>),
+    All,
+}
+
+impl<'a> Handing<'a> {
+    // What node i hands on. A node that may have no children counts as one that hands on all.
+    pub fn of(journal: &'a Journal<'a>, i: usize) -> Handing<'a>
+        requires { i < node_count journal.now.bytes.now }
+        ensures { Hands journal.now.bytes.now i result }
+    {
+        match journal.kind(i) {
+            Kind::Struct => Handing::Rows,
+            Kind::Union => Handing::Rows,
+            Kind::Runs => Handing::Runs(Runs::new(journal, i)),
+            Kind::Nested32 => Handing::List(List::new(journal, i, 4)),
+            Kind::Nested64 => Handing::List(List::new(journal, i, 8)),
+            _ => Handing::All,
+        }
+    }
+}
+
+// Of the first `known` nodes, how many rows each keeps where the root keeps the source's picked slots.
+#[derive(Clone, Copy)]
+pub struct Counted<'a> {
+    pub source: Source<'a>,
+    pub journal: &'a Journal<'a>,
+    pub counts: &'a [usize; 64],
+    pub known: usize,
+    pub ghost ready: { Ready journal.now.bytes.now (picks_in source) counts.now known } by { Ready-prop journal.now.bytes.now (picks_in source) counts.now known },
+}
+
+impl<'a> Counted<'a> {
+    // How many rows node i keeps.
+    pub fn kept(self, i: usize) -> usize
+        requires { (i < self.known) × (i < node_count self.journal.now.bytes.now) }
+        ensures { result ≡ length (kept_rows self.entry.journal.now.bytes.now (picks_in self.entry.source) i) }
+    {
+        self.counts[i]
+    }
+}
+
+// A node of this kind has a bitmap in scratch for its child: runs and lists.
+#[tactic(auto, using(crate::proofs::Handed::takes_yes, crate::proofs::Handed::takes_no))]
+pub fn takes_scratch(journal: &Journal, i: usize) -> bool
+    requires { i < node_count journal.now.bytes.now }
+    ensures { result ≡ takes_scratch journal.now.bytes.now i }
+{
+    matches!(
+        journal.kind(i),
+        Kind::Runs | Kind::Nested32 | Kind::Nested64
+    )
+}
+
+// A list with no bitmap.
+fn plain_list(journal: &Journal, i: usize) -> bool
+    requires { i < node_count journal.now.bytes.now }
+    ensures { result ≡ plain_list journal.now.bytes.now i }
+{
+    matches!(journal.kind(i), Kind::Nested32 | Kind::Nested64) & journal.has_no_bitmap(i)
+}
+
+// Entries of a width, with no bitmap.
+fn plain_entries(journal: &Journal, i: usize) -> bool
+    requires { i < node_count journal.now.bytes.now }
+    ensures { result ≡ plain_entries journal.now.bytes.now i }
+{
+    matches!(journal.kind(i), Kind::Native | Kind::Fixed) & journal.has_no_bitmap(i)
+}
+
+// Node i is such entries under such a list: its rows are copied by the list's own offsets, so it takes no bitmap in scratch (why, docs/DECISIONS.md, 71).
+pub fn by_offsets(journal: &Journal, i: usize) -> bool
+    requires { i < node_count journal.now.bytes.now }
+    ensures { result ≡ by_offsets journal.now.bytes.now i }
+{
+    if i == 0 {
+        return false;
+    }
+    plain_list(journal, i - 1) & plain_entries(journal, i)
+}

@@ -20,7 +20,6 @@ use Rattle.buffers.specs.declared.Placed.{Placed}
 use Rattle.buffers.proofs.PutLaws.{pad-ends, puts_none}
 use Rattle.nodes.specs.Place.{Copies, of_native, of_fixed, Flat, flat_native, flat_fixed}
 use Rattle.nodes.proofs.NullLaws.{all_valid, bitmap-none}
-use Rattle.nodes.proofs.BufferLaws.{Single, numeric, fixed, second-absent}
 use Rattle.node_body.specs.Added.{data_size, Added}
 
 -- ---- one buffer
@@ -35,6 +34,24 @@ start-within rest at m (holds x) h l = omega (arith, pad-ends at, length-append 
 bytes-between : (at : ℕ) (x : List ℕ) → ending at (holds x) - start_of 0 at (holds x) ≡ length x
 unfolding start_of ending appended
 bytes-between at x = rw (length-append (padding at) x) (omega (arith, pad-ends at))
+
+-- the kinds that have no data
+pub no-data : (k : Kind) (start next : ℕ) → (k ≡ Bytes32 → ⊥) → (k ≡ Bytes64 → ⊥) → 0 ≡ data_size k start next
+no-data BitsKind start next f g = refl
+no-data Native start next f g = refl
+no-data Fixed start next f g = refl
+no-data Bytes32 start next f g = absurd (f refl)
+no-data Bytes64 start next f g = absurd (g refl)
+no-data Views start next f g = refl
+no-data Lists32 start next f g = refl
+no-data Lists64 start next f g = refl
+no-data Runs start next f g = refl
+no-data Struct start next f g = refl
+no-data Union start next f g = refl
+no-data Dictionary start next f g = refl
+no-data Nested32 start next f g = refl
+no-data Nested64 start next f g = refl
+no-data Unknown start next f g = refl
 
 module _ (b : List ℕ) (i : ℕ) (rs : List ℕ) (at : ℕ) where
   pub data-length : (k : Kind) → data_size k (start_of 0 at (second (cells k b i rs))) (ending at (second (cells k b i rs))) ≡ data_length (cells k b i rs)
@@ -118,9 +135,10 @@ pub flat-copies : {k : Kind} {p : ℕ} → Flat k → Copies k p p
 flat-copies flat_native = of_native
 flat-copies flat_fixed = of_fixed
 
-flat-single : {k : Kind} → Flat k → Single k
-flat-single flat_native = numeric
-flat-single flat_fixed = fixed
+flat-second : (b : List ℕ) (i : ℕ) (rs : List ℕ) {k : Kind} → Flat k → second (cells k b i rs) ≡ absent
+unfolding second cells
+flat-second b i rs flat_native = refl
+flat-second b i rs flat_fixed = refl
 
 flat-size : {k : Kind} → Flat k → (start next : ℕ) → 0 ≡ data_size k start next
 flat-size flat_native start next = refl
@@ -131,7 +149,7 @@ module _ (b : List ℕ) (i : ℕ) (rs : List ℕ) (f : Flat (kind b i)) (plain :
   no-bitmap = bitmap-none _ (all_valid b i rs plain)
 
   no_second : second (cells (kind b i) b i rs) ≡ absent
-  no_second = second-absent b i rs refl (flat-single f)
+  no_second = flat-second b i rs f
 
   -- there is room for it where there is for the node
   pub alone-room : (at : ℕ) (old : List ℕ) → at + length (node_body at (kept_node b i rs)) ≤ length old → at + length (appended at (first (cells (kind b i) b i rs))) ≤ length old

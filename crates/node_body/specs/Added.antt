@@ -1,7 +1,7 @@
 -- One node more: its three buffers behind the body. Assumes nothing.
 use Rattle.std.specs.Prelude.{ℕ, ◌-◌, List, ◌≡◌}
 use Rattle.format.specs.declared.Kind.{Kind}
-use Rattle.format.specs.declared.Kind.TheVariants.{Bits as BitsKind, Native, Fixed, Bytes32, Bytes64, Views, Lists32, Lists64, Runs, Struct, Union, Dictionary, Nested32, Nested64, Unknown}
+use Rattle.format.specs.declared.Kind.TheVariants.{Bytes32, Bytes64}
 use Rattle.format.specs.Node.{no_bitmap}
 use Rattle.format.specs.Put.{Wrote}
 use Rattle.format.specs.Kept.{KeptNode}
@@ -12,21 +12,9 @@ use Rattle.node_body.specs.declared.Buffers.{Buffers}
 
 -- the data bytes of a node of a kind, whose second buffer starts and ends at these places; 0 where the kind has no data
 abbrev pub data_size : Kind → ℕ → ℕ → ℕ
-data_size BitsKind start next = 0
-data_size Native start next = 0
-data_size Fixed start next = 0
 data_size Bytes32 start next = next - start
 data_size Bytes64 start next = next - start
-data_size Views start next = 0
-data_size Lists32 start next = 0
-data_size Lists64 start next = 0
-data_size Runs start next = 0
-data_size Struct start next = 0
-data_size Union start next = 0
-data_size Dictionary start next = 0
-data_size Nested32 start next = 0
-data_size Nested64 start next = 0
-data_size Unknown start next = 0
+data_size _ start next = 0
 
 -- a node's buffers are put behind the place where the body ends: their bytes, their starts, the length of the data, and how many rows are null
 pub record Added (k : KeptNode) (old : List ℕ) (at : ℕ) (new : List ℕ) (r : Buffers) : Type 0 where

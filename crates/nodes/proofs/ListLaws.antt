@@ -1,19 +1,18 @@
 -- The first buffer of a list's kept rows as the writers write it, and that its rows lie in the journal. Assumes nothing.
-use Prim.Native.Nat.{ℕ, suc, ◌+◌, ◌*◌, ◌≤◌}
+use Prim.Native.Nat.{ℕ, suc, ◌+◌, ◌*◌, ◌≤◌, ◌<◌}
 use mathlib.Core.Bool.{true, false}
 use mathlib.Core.List.{List, [], ◌∷◌, ◌++◌, map, map_congr_left}
 use mathlib.Core.Logic.{◌⊎◌, inl, inr}
 use mathlib.Core.Path.{◌≡◌, refl, sym, ap, ap₂, ◌∙◌}
 use native.Mathlib.Nat.{add_assoc, add-suc, mul-sub}
 use native.Mathlib.Omega.{arith}
-use borrow.Author.Tests.{eq-eqb, ne_eqb}
 use lib.ListN.{length}
 use Rattle.format.specs.declared.Kind.{Kind}
 use Rattle.format.specs.Accepted.{Nests, OneChild}
 use Rattle.format.specs.Accepted as Accepted
 use Rattle.format.specs.Bytes.{join, bit_at, bytes_at}
 use Rattle.format.specs.Kept.{cells, span_size, span, kept_spans}
-use Rattle.format.specs.Node.{kind, param, rows, skip, places, first_at, validity_at, has_no_bitmap, no_bitmap, valid, first_number, child}
+use Rattle.format.specs.Node.{kind, param, rows, skip, places, first_at, validity_at, has_no_bitmap, valid, first_number, child, node_count}
 use Rattle.format.specs.Verdict.{one_of}
 use Rattle.format.specs.Write.{holds, first, numbers, offsets}
 use Rattle.format.proofs.Numbers.{bytes_same}
@@ -22,14 +21,16 @@ use Rattle.append.proofs.CellLaws.{entries_none, entries-append, entries-run}
 use Rattle.texts.specs.Texts.{offset, start_in, size, sizes_of, texts_of, Offsets, Texts}
 use Rattle.texts.proofs.TextLaws.{texts-none, texts-more}
 use Rattle.texts.proofs.NodeLaws.{first-offset}
-use Rattle.list_columns.specs.Spans.{span_at, reach, Spans}
-use Rattle.list_columns.proofs.SpanLaws.{reach-size}
+use Rattle.list_columns.specs.Spans.{span_at, span_start, Spans}
+use Rattle.list_columns.proofs.SpanLaws.{start-size}
 use Rattle.pack.specs.declared.Node.{Node}
-use Rattle.predicate.specs.declared.Selection.{Selection}
-use Rattle.slots.specs.declared.Bits.{Bits}
-use Rattle.nodes.specs.Place.{Picked, Copies}
+use Rattle.pack.specs.Read.{node_of}
+use Rattle.predicate.specs.Selection.{reach}
+use Rattle.nodes.specs.declared.picked.Picked.{Picked}
+use Rattle.nodes.specs.Place.{Copies}
+use Rattle.nodes.specs.Rows.{kind_of, values_of}
 use Rattle.nodes.proofs.NullLaws.{from_is}
-use Rattle.nodes.proofs.BufferLaws.{entries-after, first-copies, size-copies, width-copies}
+use Rattle.nodes.proofs.BufferLaws.{b, i, rs, sound, entries-after, first-copies, size-copies, width-copies}
 
 -- ---- widths
 
@@ -73,9 +74,9 @@ module _ (w : ℕ) (b : List ℕ) (i : ℕ) where
   unfolding span_size span_at valid bit_at size
   size-marked h r = rw (h, first-offset w b i r, first-offset w b i (suc r), add_assoc)
 
-  pub sizes-marked : has_no_bitmap b i ≡ false → (rs : List ℕ) → map (span_size w b i) rs ≡ sizes_of (reach w b (first_at b i + w * skip b i) (8 * validity_at b i + skip b i)) rs
+  pub sizes-marked : has_no_bitmap b i ≡ false → (rs : List ℕ) → map (span_size w b i) rs ≡ sizes_of (span_start w b (first_at b i + w * skip b i) (8 * validity_at b i + skip b i)) rs
   unfolding sizes_of
-  sizes-marked h rs = map_congr_left {l = rs} (λ r _. size-marked h r ∙ sym (reach-size w b _ _ r))
+  sizes-marked h rs = map_congr_left {l = rs} (λ r _. size-marked h r ∙ sym (start-size w b _ _ r))
 
 -- ---- the entries of a list's child
 
@@ -104,89 +105,81 @@ module _ (u w : ℕ) (b : List ℕ) (i start : ℕ) (h : has_no_bitmap b i ≡ t
 
 -- ---- the rows of a node
 
-module _ {b : List ℕ} {i : ℕ} {node : Node} {sel : Selection} {s : List ℕ} {mask : Bits} {list : List ℕ} (p : Picked b i node sel s mask list) {w : ℕ} (k : Nests w (kind b i)) where
-  is : Accepted.Spans w b i
-  is = p.sound.spans w i p.inside k
+module _ (p : Picked) {w : ℕ} (k : Nests w (kind_of p)) where
+  is : Accepted.Spans w (b p) (i p)
+  is = (sound p).spans w (i p) p.inside k
 
-  pub list-offsets : Offsets w b (first_at b i + w * skip b i) mask.len
+  pub list-offsets : Offsets w (b p) (first_at (b p) (i p) + w * skip (b p) (i p)) (reach p.sel)
   unfolding places
   list-offsets =
-      let table = p.sound.shape.table in
+      let table = (sound p).shape.table in
       let lie = is.lie in
       let short = p.short in
       record {
-        inside = entries-after w (length b) (first_at b i) (skip b i) (suc (rows b i)) 0 (suc mask.len) (rw add-suc (omega arith)) (omega arith);
-        rising = λ r l. rw (first-offset w b i r, first-offset w b i (suc r)) (is.rise r (omega arith));
+        inside = entries-after w (length (b p)) (first_at (b p) (i p)) (skip (b p) (i p)) (suc (rows (b p) (i p))) 0 (suc (reach p.sel)) (rw add-suc (omega arith)) (omega arith);
+        rising = λ r l. rw (first-offset w (b p) (i p) r, first-offset w (b p) (i p) (suc r)) (is.rise r (omega arith));
       }
 
-  few-places : places b i ≤ 1_048_576
-  few-places = p.sound.agree.limit i p.inside
+  few-places : places (b p) (i p) ≤ 1_048_576
+  few-places = (sound p).agree.limit (i p) p.inside
 
-  -- the code's test of the bitmap
-  pub plain-is : node.validity_at ≡ no_bitmap → has_no_bitmap b i ≡ true
-  unfolding has_no_bitmap
-  plain-is e = let v : node.validity_at ≡ validity_at b i = rw p.is in eq-eqb (validity_at b i) no_bitmap (sym v ∙ e)
-
-  pub marked-is : (node.validity_at ≡ no_bitmap → ⊥) → has_no_bitmap b i ≡ false
-  unfolding has_no_bitmap
-  marked-is f = let v : node.validity_at ≡ validity_at b i = rw p.is in ne_eqb (validity_at b i) no_bitmap (λ e. f (v ∙ e))
-
-  pub list-spans : has_no_bitmap b i ≡ false → Spans w b (first_at b i + w * skip b i) (8 * validity_at b i + skip b i) mask.len
+  pub list-spans : has_no_bitmap (b p) (i p) ≡ false → Spans w (b p) (first_at (b p) (i p) + w * skip (b p) (i p)) (8 * validity_at (b p) (i p) + skip (b p) (i p)) (reach p.sel)
   unfolding places
   list-spans h =
       let few = few-places in
-      let lies = (p.sound.in_body i p.inside).bitmap h in
-      let table = p.sound.shape.table in
-      let small = p.sound.shape.small in
+      let lies = ((sound p).in_body (i p) p.inside).bitmap h in
+      let table = (sound p).shape.table in
+      let small = (sound p).shape.small in
       let short = p.short in
-      let end = is.inside mask.len short in
-      let kids = p.sound.agree.limit (child i) (p.sound.shape.next i p.inside (nests-one k)) in
+      let end = is.inside (reach p.sel) short in
+      let kids = (sound p).agree.limit (child (i p)) ((sound p).shape.next (i p) p.inside (nests-one k)) in
       record {
         width = nests-width k;
         offsets = list-offsets;
-        last = rw (first-offset w b i mask.len) (omega arith);
+        last = rw (first-offset w (b p) (i p) (reach p.sel)) (omega arith);
         small = omega arith;
       }
 
   -- ---- as the code asks and writes: without a bitmap as a byte column
-  module _ (place : ℕ) (at : place ≡ first_at b i + w * skip b i) where
-    pub plain-lies : Offsets w b place mask.len
-    plain-lies = rw at list-offsets
+  pub plain-lies : (place : ℕ) → place ≡ first_at (b p) (i p) + w * skip (b p) (i p) → Offsets w (b p) place (reach p.sel)
+  plain-lies place at = rw at list-offsets
 
-    pub first_plain : has_no_bitmap b i ≡ true → (rs : List ℕ) → first (cells (kind b i) b i rs) ≡ holds (numbers w (offsets (sizes_of (offset w b place) rs)))
-    first_plain h rs = first-spans-are b i rs k ∙ rw at (ap (λ (l : List ℕ). holds (numbers w (offsets l))) (sizes-plain w b i h rs))
+  pub first_plain : (place : ℕ) → place ≡ first_at (b p) (i p) + w * skip (b p) (i p) → has_no_bitmap (b p) (i p) ≡ true
+      → first (values_of p) ≡ holds (numbers w (offsets (sizes_of (offset w (b p) place) (rs p))))
+  first_plain place at h = first-spans-are (b p) (i p) (rs p) k ∙ rw at (ap (λ (l : List ℕ). holds (numbers w (offsets l))) (sizes-plain w (b p) (i p) h (rs p)))
 
-  -- and with one by the bits from `from` on
-  module _ (place from : ℕ) (at : place ≡ first_at b i + w * skip b i) (bit : from ≡ 8 * node.validity_at + node.skip) (h : has_no_bitmap b i ≡ false) where
-    bit_is : from ≡ 8 * validity_at b i + skip b i
-    bit_is = bit ∙ from_is b i node p.is
+  -- and with one by the bits from a node's fields on
+  module _ (place : ℕ) (at : place ≡ first_at (b p) (i p) + w * skip (b p) (i p)) {node : Node} (fields : node ≡ node_of (b p) (i p)) (h : has_no_bitmap (b p) (i p) ≡ false) where
+    pub marked-lies : Spans w (b p) place (8 * node.validity_at + node.skip) (reach p.sel)
+    marked-lies = rw (at, from_is (b p) (i p) node fields) (list-spans h)
 
-    pub marked-lies : Spans w b place from mask.len
-    marked-lies = rw (at, bit_is) (list-spans h)
-
-    pub first-marked : (rs : List ℕ) → first (cells (kind b i) b i rs) ≡ holds (numbers w (offsets (sizes_of (reach w b place from) rs)))
-    first-marked rs = first-spans-are b i rs k ∙ rw (at, bit_is) (ap (λ (l : List ℕ). holds (numbers w (offsets l))) (sizes-marked w b i h rs))
+    pub first-marked : first (values_of p) ≡ holds (numbers w (offsets (sizes_of (span_start w (b p) place (8 * node.validity_at + node.skip)) (rs p))))
+    first-marked =
+        first-spans-are (b p) (i p) (rs p) k
+        ∙ rw (at, from_is (b p) (i p) node fields) (ap (λ (l : List ℕ). holds (numbers w (offsets l))) (sizes-marked w (b p) (i p) h (rs p)))
 
   -- ---- the entries of the child, u bytes each, that the selected rows have
-  module _ {u : ℕ} (c : Copies (kind b (suc i)) (param b (suc i)) u) where
-    pub values-lie : Texts u w b (first_at b i + w * skip b i) (first_at b (suc i) + u * skip b (suc i)) mask.len
+  pub child-in : suc (i p) < node_count (b p)
+  child-in = (sound p).shape.next (i p) p.inside (nests-one k)
+
+  module _ {u : ℕ} (c : Copies (kind (b p) (suc (i p))) (param (b p) (suc (i p))) u) where
+    pub values-lie : Texts u w (b p) (first_at (b p) (i p) + w * skip (b p) (i p)) (first_at (b p) (suc (i p)) + u * skip (b p) (suc (i p))) (reach p.sel)
     unfolding places start_in
     values-lie =
-        let inside = p.sound.shape.next i p.inside (nests-one k) in
-        let lies = (p.sound.in_body (suc i) inside).first in
-        let bytes = size-copies c (skip b (suc i) + rows b (suc i)) (rows b (child (suc i))) in
-        let table = p.sound.shape.table in
+        let lies = ((sound p).in_body (suc (i p)) child-in).first in
+        let bytes = size-copies c (skip (b p) (suc (i p)) + rows (b p) (suc (i p))) (rows (b p) (child (suc (i p)))) in
+        let table = (sound p).shape.table in
         let short = p.short in
-        let last = is.inside mask.len short in
+        let last = is.inside (reach p.sel) short in
         record {
           width = nests-either k;
           offsets = list-offsets;
-          within = rw (first-offset w b i mask.len) (entries-after u (length b) (first_at b (suc i)) (skip b (suc i)) (rows b (suc i)) 0 (first_number w b i mask.len) (omega arith) last);
+          within = rw (first-offset w (b p) (i p) (reach p.sel)) (entries-after u (length (b p)) (first_at (b p) (suc (i p))) (skip (b p) (suc (i p))) (rows (b p) (suc (i p))) 0 (first_number w (b p) (i p) (reach p.sel)) (omega arith) last);
         }
 
     pub child-narrow : u ≤ 1024
-    child-narrow = width-copies c (p.sound.fields (suc i) (p.sound.shape.next i p.inside (nests-one k))).narrow
+    child-narrow = width-copies c ((sound p).fields (suc (i p)) child-in).narrow
 
-    pub first-values-are : has_no_bitmap b i ≡ true → (rs : List ℕ) → first (cells (kind b (suc i)) b (suc i) (kept_spans w b i rs))
-        ≡ holds (texts_of (start_in u w b (first_at b i + w * skip b i)) b (first_at b (suc i) + u * skip b (suc i)) rs)
-    first-values-are h rs = first-copies b (suc i) (kept_spans w b i rs) c ∙ ap holds (span-texts u w b i _ h rs)
+    pub first-values-are : has_no_bitmap (b p) (i p) ≡ true → first (cells (kind (b p) (suc (i p))) (b p) (suc (i p)) (kept_spans w (b p) (i p) (rs p)))
+        ≡ holds (texts_of (start_in u w (b p) (first_at (b p) (i p) + w * skip (b p) (i p))) (b p) (first_at (b p) (suc (i p)) + u * skip (b p) (suc (i p))) (rs p))
+    first-values-are h = first-copies (b p) (suc (i p)) (kept_spans w (b p) (i p) (rs p)) c ∙ ap holds (span-texts u w (b p) (i p) _ h (rs p))

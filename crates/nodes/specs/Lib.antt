@@ -1,3 +1,4 @@
 -- What the contracts of this crate cite.
 pub mod Body
 pub mod Place
+pub mod Rows

@@ -1,15 +1,13 @@
 -- Refusal 5 by the places of the walk: tests of each number in a range, and each part by what the places hold. Assumes nothing.
-use Prim.Native.Nat.{ℕ, zero, suc, ◌+◌, ◌-◌, ◌<◌}
+use Prim.Native.Nat.{ℕ, suc, ◌-◌, ◌<◌}
 use mathlib.Core.Bool.{Bool, true, false, not, ◌&&◌, ◌||◌}
 use mathlib.Core.List.{List, [], ◌∷◌}
 use mathlib.Core.Path.{◌≡◌, refl, sym, ap, subst, ◌∙◌}
-use native.Mathlib.Nat.{zero-add}
 use native.Mathlib.Omega.{arith}
-use borrow.Author.Tests.{eq-eqb, ne_eqb, lt-ltb}
+use borrow.Author.Tests.{eq-eqb, ne_eqb}
 use lib.Dec.{eqb, ltb}
 use lib.ListN.{length, get_or, get_or-map}
 use Rattle.std.specs.List.{list_any, range_with_len}
-use Rattle.format.specs.Bytes.{any_below}
 use denote.Enum.Bare.{sameb, same_true, same_false}
 use Rattle.format.specs.contracts.Kind.{the_type}
 use Rattle.format.specs.Node.{Ancestor, node_count, param, of_kind, has_no_bitmap, ancestors, parent, depth, kind, kind_of}
@@ -17,33 +15,13 @@ use Rattle.format.specs.Verdict.{any_node, any_child, empty, not_closed, bad_dat
 use Rattle.format.specs.declared.Kind.{Kind}
 use Rattle.format.specs.declared.Kind.TheVariants.{Unknown}
 use Rattle.format.proofs.Accepted.{kind-number, number-kind, number_of}
-use Rattle.content.proofs.Fold.{any-ext, any-front}
+use Rattle.content.proofs.Fold.{any-ext}
+use Rattle.pack.proofs.Ranges.{any-all, any-later}
 use Rattle.pack.specs.declared.Node.{Node}
 use Rattle.pack.specs.declared.Place.{Place}
 use Rattle.pack.specs.declared.Walk.{Walk}
 use Rattle.pack.specs.Read.{node_of}
 use Rattle.pack.specs.Tree.{Walked}
-
--- ---- a range whose numbers are tested
-
-any-range : (p : ℕ → Bool) (a n : ℕ) → list_any p (range_with_len a n) ≡ any_below (λ k. p (a + k)) n
-unfolding any_below
-any-range p a zero = refl
-any-range p a (suc n) =
-    let first : p a ≡ p (a + 0) = ap p (omega arith) in
-    let rest : any_below (λ k. p (a + 1 + k)) n ≡ any_below (λ k. p (a + suc k)) n = any-ext _ _ n (λ k l. ap p (omega arith)) in
-    ap (p a ||◌) (any-range p (a + 1) n ∙ rest) ∙ ap (◌|| any_below (λ k. p (a + suc k)) n) first ∙ sym (any-front (λ k. p (a + k)) n)
-
--- each number below n, and each but 0
-pub any-all : (p : ℕ → Bool) (n : ℕ) → list_any p (range_with_len 0 n) ≡ any_below p n
-any-all p n = any-range p 0 n ∙ any-ext _ _ n (λ k l. ap p (zero-add k))
-
-pub any-later : (p : ℕ → Bool) (n : ℕ) → list_any p (range_with_len 1 (n - 1)) ≡ any_below (λ i. ltb 0 i && p i) n
-unfolding any_below
-any-later p zero = refl
-any-later p (suc n) =
-    let e : suc n - 1 ≡ n = omega arith in
-    rw (e, any-range p 1 n, any-front (λ i. ltb 0 i && p i) n) (any-ext _ _ n (λ k l. rw (lt-ltb 0 (suc k) (omega arith)) (ap p (omega arith))))
 
 -- ---- the parts
 

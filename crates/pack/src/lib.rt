@@ -33,6 +33,18 @@ pub struct Node {
     pub last_field: u32,
 }
 
+impl Node {
+    ghost use Rattle.std.specs.Prelude.{◌≡◌, None, Some, cond, eqb};
+    ghost use Rattle.format.specs.Node.{no_bitmap};
+
+    // Where its validity bitmap stands, if it has one.
+    pub fn bitmap(self) -> Option<usize>
+        ensures { result ≡ cond (eqb self.validity_at no_bitmap) None (Some self.validity_at) }
+    {
+        (self.validity_at != NO_BITMAP).then_some(self.validity_at as usize)
+    }
+}
+
 // Where a node stands in the tree: its parent, and its depth. The root's are 0 and 1.
 #[derive(Clone, Copy, Debug, PartialEq, Eq)]
 pub struct Place {

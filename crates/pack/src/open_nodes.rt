@@ -79,6 +79,7 @@ impl OpenNodes {
     pub fn close(&mut self)
         ensures { self.new ≡ closed self.old }
     {
+        // A stack is popped: nothing says beforehand how often.
         while 0 < self.depth && self.nodes[self.depth - 1].left == 0 {
             self.depth -= 1;
         }

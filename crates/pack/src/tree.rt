@@ -6,7 +6,7 @@ ghost use Rattle.pack.specs.Tree.{Parents, Walked};
 
 use crate::open_nodes::OpenNodes;
 use crate::read::{node_at, node_count};
-use crate::{NO_BITMAP, Place, Walk};
+use crate::{Place, Walk};
 use format::Kind;
 
 // A node may be at most this deep.
@@ -54,7 +54,7 @@ fn bad_data_buffer(pack: &[u8], p: u32, i: u32) -> bool
     let n = node_at(pack, i);
     let views = Kind::from(above.kind) == Kind::Views;
     let native = Kind::from(n.kind) == Kind::Native;
-    views & !(native & (n.param == 1) & (n.validity_at == NO_BITMAP))
+    views & !(native & (n.param == 1) & n.bitmap().is_none())
 }
 
 // 5: the tree closes after the last node and not before, so that no node after the first has depth 1; depth; a views node's children.

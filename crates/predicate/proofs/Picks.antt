@@ -5,7 +5,7 @@ use Rattle.format.specs.Rows.{set_rows, Below}
 use Rattle.format.specs.Slots.{after, word_from, pick, picks_from, runs_from, count_up, starts_and_ends, All, FirstRun}
 use Rattle.format.proofs.RowLaws.{set-from, below_left, below-picks}
 use Rattle.format.proofs.SlotLaws.{all_none, all_one, all_join, all-less, after_is, after-not, picks-cat, picks-none, picks-all, picks-ext, runs-next, runs_none, Next, runs-first}
-use Rattle.predicate.specs.Selection.{picks_on, edges_on}
+use Rattle.predicate.specs.Blocks.{picks_on, edges_on}
 
 -- ---- from what is known of the rows to the lists
 

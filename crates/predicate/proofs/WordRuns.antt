@@ -13,9 +13,7 @@ use Rattle.format.proofs.SlotLaws.{all_none, all-less, all_join, after_is}
 use Rattle.format.proofs.WordLaws.{from-ext, from-clear, from_zero, Lowest, lowest_set}
 use Rattle.scan.proofs.Scan.{Scanned, Hit, hit}
 use Rattle.predicate.specs.declared.Block.{Block}
-use Rattle.predicate.specs.declared.Block.TheVariants as block
-use Rattle.predicate.specs.Selection.{picks_on}
-use Rattle.predicate.specs.Blocks.{Leaves, Worded, Found, Filled, Ran}
+use Rattle.predicate.specs.Blocks.{picks_on, Leaves, Worded, Found, Filled, Ran}
 use Rattle.predicate.proofs.Picks.{picks-span}
 use Rattle.predicate.proofs.Steps.{word-leaves}
 
@@ -80,7 +78,7 @@ run-leaves {len = len} r s =
 
 -- rows that are not kept are passed over
 module _ {p : ℕ → Bool} {len from to : ℕ} (l : from ≤ to) (h : to ≤ len) (gap : All p false from to) where
-  picks-skip : picks_on p len from ≡ picks_on p len to
+  pub picks-skip : picks_on p len from ≡ picks_on p len to
   picks-skip =
       let none : count_up (to - to) to ≡ [] = up_none _ _ (omega arith) in
       rw none at (picks-span len l (omega arith) h gap (all_none (omega arith)))
@@ -88,11 +86,14 @@ module _ {p : ℕ → Bool} {len from to : ℕ} (l : from ≤ to) (h : to ≤ le
   pub leaves-on : {xs : List ℕ} {place : ℕ} → Leaves p len to xs place → Leaves p len from xs place
   leaves-on f = let m = f.moves in record { rest = picks-skip ∙ f.rest; moves = omega arith; inside = f.inside }
 
-  pub worded-on : (r : Block) → Worded p len to r → Worded p len from r
-  worded-on (block.Run a e d) f = (f.0, f.1, leaves-on f.2)
-  worded-on (block.Word base x d) f = (f.0, leaves-on f.1)
-  worded-on (block.Listed i j d) f = absurd f
-  worded-on block.End f = picks-skip ∙ f
+  pub worded-on : (r : Block × ℕ) → Worded p len to r → Worded p len from r
+  worded-on r f = (f.0, leaves-on f.1)
+
+-- nothing is left of a word from row `from` on: no row of it is kept
+pub none-after : {p : ℕ → Bool} {from i : ℕ} → i ≤ from → word_from (after p from) 64 i ≡ 0 → All p false from (i + 64)
+none-after {p} {from} {i} l z =
+    let none = from_zero (after p from) 64 i z in
+    record { at = λ j m h. sym (after_is p from j m) ∙ none.at j (omega arith) h }
 
 -- ---- what is left of word w, some row of it
 

@@ -1,20 +1,64 @@
--- Blocks of kept rows: which rows each form of block has, and what asking for the next one answers. Assumes nothing.
-use Rattle.std.specs.Prelude.{◌≡◌, ℕ, ◌+◌, ◌-◌, ◌*◌, ◌/◌, ◌%◌, ◌^◌, ◌<◌, ◌≤◌, Bool, true, false, ◌||◌, List, [], ◌++◌, length, ◌==◌}
+-- Blocks of kept rows: which rows each form of block has, what is left of a selection, and what asking for the next block answers. Assumes nothing.
+use Rattle.std.specs.Prelude.{◌≡◌, ℕ, ◌+◌, ◌-◌, ◌*◌, ◌/◌, ◌%◌, ◌^◌, ◌<◌, ◌≤◌, Bool, true, false, ◌||◌, List, [], ◌++◌, length, ◌==◌, Option, MatchOption}
 use Rattle.format.specs.Bytes.{bytes_at}
 use Rattle.format.specs.Rows.{set_rows}
-use Rattle.format.specs.Slots.{count_up, word_from, after, All}
+use Rattle.format.specs.Slots.{count_up, word_from, after, All, picks_from, runs_from, starts_and_ends}
+use Rattle.slots.specs.Slot.{slot_in}
 use Rattle.predicate.specs.declared.Selection.{Selection}
-use Rattle.predicate.specs.declared.Cursor.{Cursor}
+use Rattle.predicate.specs.declared.Selection.TheVariants as sel
 use Rattle.predicate.specs.declared.Block.{Block}
-use Rattle.predicate.specs.declared.Block.TheVariants.{Run, Word, Listed, End}
-use Rattle.predicate.specs.Selection.{picks_on, InStep}
+use Rattle.predicate.specs.declared.Block.TheVariants.{Run, Word, Listed}
+use Rattle.predicate.specs.declared.Blocks.{Blocks}
+use Rattle.predicate.specs.Selection.{reach}
 
 -- the rows of a block
-abbrev pub block_rows : Block → List ℕ → List ℕ
-block_rows (Run a e d) list = count_up (e - a) a
-block_rows (Word base x d) list = set_rows base x
-block_rows (Listed i j d) list = bytes_at list i (j - i)
-block_rows End list = []
+abbrev pub block_rows : Block → List ℕ
+block_rows (Run a e) = count_up (e - a) a
+block_rows (Word base x) = set_rows base x
+block_rows (Listed rows) = rows.now
+
+-- ---- what is left of a selection
+
+-- which rows it keeps, by its source; where none or all are kept no bit is read, so that rows without a source can be selected too
+abbrev pub kept_by : Selection → ℕ → Bool
+kept_by sel.Nothing = λ i. false
+kept_by (sel.Everything n) = λ i. true
+kept_by (sel.Words source) = slot_in source
+kept_by (sel.Runs stored) = slot_in stored.source
+kept_by (sel.Rows stored) = slot_in stored.source
+
+-- the picked rows from row i on, and the starts and ends of their runs: what is still to come at i
+unfoldable pub picks_on : (ℕ → Bool) → ℕ → ℕ → List ℕ
+picks_on p len i = picks_from p (len - i) i
+
+unfoldable pub edges_on : (ℕ → Bool) → ℕ → ℕ → List ℕ
+edges_on p len i = starts_and_ends (runs_from p (len - i) i)
+
+-- the rows that are left
+abbrev pub rows_left : Blocks → List ℕ
+rows_left s = picks_on (kept_by s.sel) (reach s.sel) s.place
+
+-- the entries from `index` on are the starts and ends of the runs from `place` on
+pub record Lists (list : List ℕ) (index : ℕ) (xs : List ℕ) : Type 0 where
+  pub room : index ≤ length list
+  pub entries : bytes_at list index (length list - index) ≡ xs
+
+-- what a list of runs has yet to give is what its source picks from the place on; a list of rows gives all of them at once
+abbrev pub Agrees : Selection → ℕ → ℕ → Type 0
+Agrees sel.Nothing place index = Unit {0}
+Agrees (sel.Everything n) place index = Unit {0}
+Agrees (sel.Words source) place index = Unit {0}
+Agrees (sel.Runs stored) place index = Lists stored.ends.now index (edges_on (slot_in stored.source) stored.source.bits.len place)
+Agrees (sel.Rows stored) place index = place < stored.source.bits.len → place ≡ 0
+
+pub record InStep (s : Blocks) : Type 0 where
+  pub inside : s.place ≤ reach s.sel
+  pub agrees : Agrees s.sel s.place s.index
+
+abbrev pub Begun : Selection → Blocks → Type 0
+Begun s r = (r.sel ≡ s) × (r.place ≡ 0) × (r.index ≡ 0)
+
+-- ---- the next block
 
 -- the picked rows from `from` on are xs, and then those from `place` on
 pub record Leaves (p : ℕ → Bool) (len from : ℕ) (xs : List ℕ) (place : ℕ) : Type 0 where
@@ -22,25 +66,20 @@ pub record Leaves (p : ℕ → Bool) (len from : ℕ) (xs : List ℕ) (place : �
   pub moves : from < place
   pub inside : place ≤ len
 
--- the same, with a cursor d that is in step
-pub record Gives (sel : Selection) (p : ℕ → Bool) (len : ℕ) (list : List ℕ) (from : ℕ) (xs : List ℕ) (d : Cursor) : Type 0 where
-  pub rest : picks_on p len from ≡ xs ++ picks_on p len d.place
-  pub moves : from < d.place
-  pub step : InStep sel p len list d
+-- a block lies in the rows below len
+abbrev pub Within : ℕ → Block → Type 0
+Within len (Run a e) = (a ≤ e) × (e ≤ len)
+Within len (Word base x) = base ≤ len
+Within len (Listed rows) = Unit {0}
 
--- what asking for the next block answers: one, which lies in the rows or in the list, or End where no row is left
-abbrev pub Blocked : Selection → (ℕ → Bool) → ℕ → List ℕ → ℕ → Block → Type 0
-Blocked sel p len list from (Run a e d) = (a ≤ e) × (e ≤ len) × Gives sel p len list from (block_rows (Run a e d) list) d
-Blocked sel p len list from (Word base x d) = (base ≤ len) × Gives sel p len list from (block_rows (Word base x d) list) d
-Blocked sel p len list from (Listed i j d) = (i ≤ j) × (j ≤ length list) × Gives sel p len list from (block_rows (Listed i j d) list) d
-Blocked sel p len list from End = picks_on p len from ≡ []
+-- what the words of a source answer: a block, and the row behind it
+abbrev pub Worded : (ℕ → Bool) → ℕ → ℕ → Block × ℕ → Type 0
+Worded p len from r = Within len r.0 × Leaves p len from (block_rows r.0) r.1
 
--- and what the mask alone answers, by its words
-abbrev pub Worded : (ℕ → Bool) → ℕ → ℕ → Block → Type 0
-Worded p len from (Run a e d) = (a ≤ e) × (e ≤ len) × Leaves p len from (block_rows (Run a e d) []) d.place
-Worded p len from (Word base x d) = (base ≤ len) × Leaves p len from (block_rows (Word base x d) []) d.place
-Worded p len from (Listed i j d) = ⊥
-Worded p len from End = picks_on p len from ≡ []
+-- what a call of `next` gives: the first block of what is left; or nothing, where no row is left
+pub record GivesBlock (s : Blocks) (r : Option Block) (t : Blocks) : Type 0 where
+  pub same : t.sel ≡ s.sel
+  pub gives : MatchOption r (rows_left s ≡ []) (λ block. Within (reach s.sel) block × (rows_left s ≡ block_rows block ++ rows_left t))
 
 -- no row from `from` up to word w is picked, and x is what is left of that word: some row
 pub record Found (p : ℕ → Bool) (from w x : ℕ) : Type 0 where
@@ -63,11 +102,9 @@ pub record Ran (p : ℕ → Bool) (len from a e : ℕ) : Type 0 where
   pub before : All p false from a
   pub within : All p true a e
 
--- no row is said to be picked next, or a run is
-pub record NextRun (p : ℕ → Bool) (len from a e : ℕ) : Type 0 where
-  pub order : a ≤ e
-  pub high : e ≤ len
-  pub run : a < e → Ran p len from a e
+-- the run picked next that starts in the word of `from`; or none, where no row of that word is left
+abbrev pub NextRun : (ℕ → Bool) → ℕ → ℕ → Option (ℕ × ℕ) → Type 0
+NextRun p len from r = MatchOption r (All p false from (64 * (from / 64) + 64)) (λ run. Ran p len from run.0 run.1)
 
 -- a word whose lowest 16 bits are set, and one whose lowest or highest are: how rows are best taken, whichever way gives the same rows
 abbrev pub starts_long : ℕ → Bool

@@ -1,3 +1,4 @@
 -- What the contracts of this crate cite.
+pub mod Entries
 pub mod Selection
 pub mod Blocks

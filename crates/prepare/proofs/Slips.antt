@@ -31,7 +31,7 @@ use Rattle.slots.specs.declared.Bits.{Bits}
 use Rattle.slots.specs.Source.{slot_of, Lies}
 use Rattle.slots.specs.Node.{bits_of}
 use Rattle.slots.proofs.Masked.{mask-picks, mask-count, mask-runs, mask-lies, mask-short}
-use Rattle.predicate.specs.Selection.{entries_on}
+use Rattle.predicate.specs.Entries.{entries_on}
 use Rattle.prepare.specs.Prepare.{Counted, Answered}
 
 -- ---- the list's entries are those that `format` says

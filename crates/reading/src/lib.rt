@@ -13,6 +13,7 @@ pub fn read_full<R: Read>(input: &mut R, into: &mut [u8]) -> usize
     ensures bytes { Consumes (R.remaining input.old) (R.remaining input.new) (take result into.new) }
 {
     let mut done = 0;
+    // The library's `read_exact` does not say how much a short input had.
     while done < into.len() {
         match input.read(&mut into[done..]) {
             Ok(0) | Err(_) => break,

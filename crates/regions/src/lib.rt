@@ -1,27 +1,34 @@
 // Which rows each node keeps, as a selection that the column filters take.
 #![tactic(auto)]
 
-ghost use Rattle.std.specs.Prelude.{◌≡◌, false, ◌<◌};
-ghost use Rattle.format.specs.Node.{node_count};
-ghost use Rattle.nesting.specs.Rows.{by_offsets, picks_of};
-ghost use Rattle.regions.specs.Region.{none_or_all, Given, Tells};
+ghost use Rattle.std.specs.Prelude.{◌≡◌, false, ◌≤◌, ◌<◌};
+ghost use Rattle.std.proofs.Props.{props};
+ghost use Rattle.format.specs.Node.{node_count, rows};
+ghost use Rattle.predicate.specs.Selection.{selected, reach};
+ghost use Rattle.nesting.specs.Rows.{by_offsets, picks_in};
+ghost use Rattle.fill.specs.Scratch.{Earlier};
+ghost use Rattle.regions.specs.Region.{none_or_all, Selects};
 
-use fill::plain_bits;
-use nesting::table::takes_scratch;
-use nesting::top::top_of;
-use predicate::{Held, Selection};
-use slots::Bits;
+use fill::{Teller, told_by};
+use nesting::Counted;
+use predicate::Selection;
 
-// A selection of a node's rows; its bits stand in the mask or in scratch.
+// What tells the rows of each node: the root's as a selection, how many rows each node keeps, and scratch with the bitmaps of kept runs and child rows,
+// each from its node's place on.
 #[derive(Clone, Copy)]
-pub struct Told {
-    pub sel: Selection,
-    pub bits: Bits,
-    pub in_mask: bool,
+pub struct Regions<'a> {
+    pub counted: Counted<'a>,
+    pub sel: Selection<'a>,
+    pub scratch: &'a [u8],
+    pub places: &'a [usize; 64],
+    pub ghost known: { counted.known ≡ node_count counted.journal.now.bytes.now },
+    pub ghost rooted: { selected sel ≡ picks_in counted.source },
+    pub ghost short: { reach sel ≤ rows counted.journal.now.bytes.now 0 },
+    pub ghost filled: { Earlier counted.journal.now.bytes.now (picks_in counted.source) (node_count counted.journal.now.bytes.now) scratch.now places.now } by { Prim.hlevel props },
 }
 
 // All rows of a carried node, or none: no bits are read.
-fn carried(kept: usize, len: usize) -> Selection
+fn carried<'a>(kept: usize, len: usize) -> Selection<'a>
     ensures { result ≡ none_or_all kept len }
 {
     if kept == 0 {
@@ -30,44 +37,18 @@ fn carried(kept: usize, len: usize) -> Selection
     Selection::Everything(len)
 }
 
-// The rows that node i keeps, where it is not copied by the offsets of a list. Struct and union hand on their own; a root's are told by the mask, those of a child of runs or of a list by
-// its bitmap in scratch, and a carried child keeps all rows or none.
-pub fn rows_of(
-    mask: &[u8],
-    bits: Bits,
-    sel: Selection,
-    list: &[u32],
-    scratch: &[u8],
-    journal: &[u8],
-    table: &[u32; 640],
-    parents: &[u32; 64],
-    counts: &[usize; 64],
-    places: &[usize; 64],
-    i: usize,
-) -> Told
-    requires given { Given mask.now bits sel list.now scratch.now journal.now table.now parents.now counts.now places.now }
-    requires i_bound { (i < node_count journal.now) × (by_offsets journal.now i ≡ false) }
-    ensures { Tells journal.now i (picks_of mask.now bits) mask.now list.now scratch.now result }
-{
-    let t = top_of(journal, table, parents, i);
-    if t == 0 {
-        return Told {
-            sel,
-            bits,
-            in_mask: true,
-        };
-    }
-    let len = table[10 * t + 2] as usize;
-    if takes_scratch(table[10 * (parents[t] as usize)]) {
-        return Told {
-            sel: Selection::Rows(Held::Lazy),
-            bits: plain_bits(places[t], len),
-            in_mask: false,
-        };
-    }
-    Told {
-        sel: carried(counts[t], len),
-        bits: plain_bits(0, len),
-        in_mask: true,
+impl<'a> Regions<'a> {
+    // The rows that node i keeps, where it is not copied by the offsets of a list. Struct and union hand on their own; a root's are the call's selection, those
+    // of a child of runs or of a list are told by its bitmap in scratch, and a carried child keeps all rows or none.
+    pub fn rows_of(&self, i: usize) -> Selection<'a>
+        requires { (i < node_count self.now.counted.journal.now.bytes.now) × (by_offsets self.now.counted.journal.now.bytes.now i ≡ false) }
+        ensures { Selects self.now.counted.journal.now.bytes.now (picks_in self.now.counted.source) i result }
+    {
+        let counted = self.counted;
+        match told_by(counted, self.places, self.scratch, i) {
+            Teller::Root => self.sel,
+            Teller::Bitmap(source) => Selection::Words(source),
+            Teller::Carried(top) => carried(counted.kept(top), counted.journal.rows(top)),
+        }
     }
 }

@@ -3,18 +3,18 @@ use Prim.Native.Nat.{ℕ, ◌+◌, ◌-◌, ◌*◌, ◌/◌, ◌%◌, ◌^◌, 
 use mathlib.Core.Bool.{Bool, true, false}
 use mathlib.Core.List.{List, [], ◌∷◌, ◌++◌, append-nil}
 use mathlib.Core.Logic.{dite}
-use mathlib.Core.Path.{◌≡◌, refl, sym, ap, ◌∙◌}
+use mathlib.Core.Path.{◌≡◌, refl, sym, ap, ap₂, ◌∙◌}
 use native.Mathlib.Nat.{lt_of_lt_of_le}
 use native.Mathlib.Decide.{dec_le}
 use native.Mathlib.Omega.{arith}
 use mir.Val.{bool_byte}
 use lib.ListN.{length, set}
+use lib.Seq.{drop-length}
 use lib.Pow.{pow_mono}
-use Rattle.format.specs.Bytes.{table, one, to_le, bytes_for, packed}
+use Rattle.format.specs.Bytes.{table, one, to_le, bytes_for, packed, over}
 use Rattle.format.specs.Words.{word_of}
 use Rattle.format.specs.Slots.{slots_from, word_from}
-use Rattle.format.specs.Put.{Wrote}
-use Rattle.format.proofs.Put.{Left, room, stored, done}
+use Rattle.format.proofs.Put.{Left, whole, stored, done, wrote-front}
 use Rattle.format.proofs.SlotLaws.{length-slots, slots-cat}
 use Rattle.format.proofs.WordLaws.{word_lt, from-lt, from-cat}
 use Rattle.format.proofs.PackedLaws.{packed-word, packed-append}
@@ -84,22 +84,36 @@ byte_next p len r next h e =
 
 -- ---- a bitmap written byte by byte
 
-module _ (p : ℕ → Bool) (n : ℕ) where
-  pub rows_all : packed (slots_from p (n - 0) 0) ≡ packed (slots_from p n 0)
-  rows_all = let e : n - 0 ≡ n = omega arith in rw e
+pub byte-inside : (n : ℕ) (old : List ℕ) → length old ≡ bytes_for n → (k : ℕ) → k < length old → 8 * k < n
+unfolding bytes_for
+byte-inside n old long k h = omega arith
 
+module _ (p : ℕ → Bool) (n : ℕ) where
   rows_none : (r : ℕ) → n ≤ r → packed (slots_from p (n - r) r) ≡ []
   unfolding slots_from
   rows_none r h = let e : n - r ≡ 0 = omega arith in rw e packed_none
 
--- the rows from r on are left to write
-module _ (p : ℕ → Bool) (len r : ℕ) {old : List ℕ} {at : ℕ} {new : List ℕ} {here : ℕ} (l : Left old at (packed (slots_from p len 0)) new here (packed (slots_from p (len - r) r))) where
-  module _ (next : ℕ) (h : r < len) (e : next ≡ min len (r + 8)) where
-    pub byte-room : at + bytes_for len ≤ length old → here < length new
-    byte-room fit = omega (arith, room (word_from p (next - r) r ∷ []) _ l (byte_next p len r next h e) (rw (length-rows p len) fit))
+  -- the rows past the next eight, or past the last
+  rows_past : (r next : ℕ) → next ≡ min n r → packed (slots_from p (n - next) next) ≡ packed (slots_from p (n - r) r)
+  rows_past r next e =
+      dite (dec_le r n) (λ h. let q : next ≡ r = omega arith in rw q)
+      (λ h. rows_none next (omega arith) ∙ sym (rows_none r (omega arith)))
 
-    pub byte-stored : (x : ℕ) → x ≡ word_from p (next - r) r → Left old at (packed (slots_from p len 0)) (set new here x) (here + 1) (packed (slots_from p (len - next) next))
-    byte-stored x ex = stored l (rw ex (byte_next p len r next h e)) refl
+  -- the bytes before byte k are written
+  abbrev pub Bytes : List ℕ → List ℕ → ℕ → Type 0
+  Bytes old new k = Left old 0 (packed (slots_from p n 0)) new k (packed (slots_from p (n - 8 * k) (8 * k)))
 
-  pub bytes-done : (n : ℕ) → len ≡ n → len ≤ r → Wrote old at (packed (slots_from p n 0)) new here
-  bytes-done n e h = rw (← e) (done l (rows_none p len r h) refl)
+  module _ {old : List ℕ} (long : length old ≡ bytes_for n) where
+    pub bytes-none : Bytes old old 0
+    bytes-none = let e : n - 8 * 0 ≡ n = omega arith in whole refl (rw e)
+
+    pub byte_more : {new : List ℕ} {k x next : ℕ} → Bytes old new k → 8 * k < n → next ≡ min n (8 * k + 8) → x ≡ word_from p (next - 8 * k) (8 * k) → Bytes old (set new k x) (k + 1)
+    byte_more {k = k} l h e ex =
+        let up : 8 * k + 8 ≡ 8 * (k + 1) = omega arith in
+        stored l (byte_next p n (8 * k) _ h e ∙ ap₂ ◌∷◌ (sym ex) (rows_past (8 * (k + 1)) _ (rw up at e))) refl
+
+    pub bytes-done : {new : List ℕ} {k : ℕ} → Bytes old new k → length old ≤ k → new ≡ packed (slots_from p n 0)
+    unfolding over bytes_for
+    bytes-done l h =
+        let all : length (packed (slots_from p n 0)) ≡ length old = length-rows p n ∙ sym long in
+        wrote-front (done l (rows_none _ (omega (arith, long))) refl) (omega arith) ∙ rw (all, drop-length old) (append-nil _)

@@ -68,7 +68,7 @@ module _ (g : ℕ → ℕ) (n : ℕ) where
   unfolding sizes_below
   sizes-hit h = rw (chosen-hit (λ j. ltb 0 (g j)) n (lt-ltb 0 (g n) h), map-append)
 
-  sizes-miss : g n ≡ 0 → sizes_below g (n + 1) ≡ sizes_below g n
+  pub sizes-miss : g n ≡ 0 → sizes_below g (n + 1) ≡ sizes_below g n
   unfolding sizes_below
   sizes-miss h = ap (map g) (chosen-miss (λ j. ltb 0 (g j)) n (le-ltb 0 (g n) (omega arith)))
 

@@ -7,7 +7,7 @@ use native.Mathlib.Decide.{dec_lt}
 use Rattle.std.proofs.lemmas.Option.{none-some, same_Some}
 use Rattle.format.specs.Slots.{word_from, runs_from, All, FirstRun}
 use Rattle.format.proofs.Laws.{any_found, any_none, none_any}
-use Rattle.format.proofs.SlotLaws.{all_join, all-less, runs-next, runs_none, Next, runs-first}
+use Rattle.format.proofs.SlotLaws.{all_join, runs-next, runs_none, Next, runs-first}
 use Rattle.format.proofs.WordLaws.{from-none, from_zero}
 use Rattle.scan.specs.Asked.{any_in, Picked, first_run}
 

@@ -4,7 +4,9 @@
 ghost use Rattle.std.specs.Prelude.{◌≡◌, ◌+◌, ◌-◌, ◌*◌, ◌<◌, ◌≤◌};
 ghost use Rattle.format.specs.Slots.{runs_from};
 ghost use Rattle.slots.specs.Slot.{slot_in};
+ghost use Rattle.std.specs.Iterator.{at_most};
 ghost use Rattle.scan.specs.Asked.{Ones, Blank, Picked, any_in, first_run};
+ghost use Rattle.scan.specs.Words.{NextWord, GivesWord};
 
 use slots::Source;
 
@@ -50,6 +52,53 @@ pub fn blank_end(source: Source, from: usize) -> usize
     w
 }
 
+// The words of a source that have a picked slot, one after another: the first slot of each, and the word.
+#[derive(Drop)]
+pub struct PickedWords<'a> {
+    source: Source<'a>,
+    at: usize,
+}
+
+impl<'a> PickedWords<'a> {
+    pub fn new(source: Source<'a>) -> PickedWords<'a>
+        ensures source { result.source ≡ source.entry }
+        ensures at { result.at ≡ 0 }
+    {
+        PickedWords { source, at: 0 }
+    }
+}
+
+impl<'a> Iterator for PickedWords<'a> {
+    type Item = (usize, u64);
+
+    ghost can_next = { λ s. 64 * s.at ≤ s.source.bits.len + 64 };
+
+    ghost next_gives = { GivesWord };
+
+    ghost remaining = { λ s. at_most (s.source.bits.len - s.at) };
+
+    // An empty word costs one test alone, and now and then one of what follows it. It is compiled into its callers' loops.
+    #[inline(always)]
+    fn next(&mut self) -> Option<(usize, u64)> {
+        let mut w = self.at;
+        // Empty stretches are passed at once: no plainer as a range.
+        while 64 * w < self.source.bits.len {
+            let base = 64 * w;
+            let word = self.source.word(w);
+            w += 1;
+            if word != 0 {
+                self.at = w;
+                return Some((base, word));
+            }
+            if w % SPACING == 0 {
+                w = blank_end(self.source, w);
+            }
+        }
+        self.at = w;
+        None
+    }
+}
+
 // The next maximal run of picked slots at or after `from`, as its start and its end, [start, end).
 pub fn next_run(source: Source, from: usize) -> Option<(usize, usize)>
     ensures { result ≡ first_run (runs_from (slot_in source.entry) (source.entry.bits.len - from) from) }
@@ -61,7 +110,7 @@ pub fn next_run(source: Source, from: usize) -> Option<(usize, usize)>
     let mut w = from / 64;
     // What is left of word w: its set bits at or after e.
     let mut x = source.word_after(from);
-    // The run so far, [a, e); none yet where a is e.
+    // The run so far, [a, e); none yet where a is e. The specification names these two loops, left from inside (docs/DECISIONS.md, the table of forms).
     let mut a = from;
     let mut e = from;
     let end = 'words: loop {

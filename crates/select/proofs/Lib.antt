@@ -1,3 +1,2 @@
 -- The laws of this crate.
 pub mod Selecting
-pub mod Filling

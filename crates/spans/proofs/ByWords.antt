@@ -1,7 +1,7 @@
 -- What the rows picked by a test span, word by word of 64 slots. Assumes nothing.
 use Prim.Native.Nat.{ℕ, zero, suc, ◌+◌, ◌-◌, ◌*◌, ◌^◌, ◌≤◌, ◌<◌}
 use mathlib.Core.Bool.{Bool, true, false}
-use mathlib.Core.List.{List, ◌++◌}
+use mathlib.Core.List.{List, ◌++◌, append-nil}
 use mathlib.Core.Path.{◌≡◌, refl, sym, ap, ◌∙◌}
 use mathlib.Core.Logic.{dite}
 use native.Mathlib.Decide.{dec_le}
@@ -10,9 +10,9 @@ use native.Mathlib.Omega.{arith}
 use lib.ListN.{length}
 use Rattle.format.specs.Bytes.{chosen, one}
 use Rattle.format.specs.Rows.{set_rows, Below, none, more}
-use Rattle.format.specs.Slots.{word_from, pick, picks_from}
+use Rattle.format.specs.Slots.{word_from, pick, picks_from, All}
 use Rattle.format.proofs.RowLaws.{set-none, set-from}
-use Rattle.format.proofs.SlotLaws.{picks-cat, chosen-picks}
+use Rattle.format.proofs.SlotLaws.{picks-cat, picks-none, chosen-picks}
 use Rattle.nesting.proofs.Between.{chosen_more}
 use Rattle.spans.specs.Spans.{offset_from, spans, Mounts, Rising}
 use Rattle.spans.proofs.Spanned.{spans-none, spans-append, spans-run, picks-le}
@@ -42,6 +42,12 @@ chosen-word p m =
 pub no_words : (o : ℕ → ℕ) (p : ℕ → Bool) → 0 ≡ spans o (chosen p 0)
 unfolding chosen spans
 no_words o p = refl
+
+-- slots that are passed over add nothing
+pub passed : (o : ℕ → ℕ) {p : ℕ → Bool} {a e : ℕ} → a ≤ e → All p false a e → {n : ℕ} → n ≡ spans o (chosen p a) → n ≡ spans o (chosen p e)
+passed o {p} {a} {e} l f q =
+    let to : e ≡ a + (e - a) = omega arith in
+    q ∙ ap (spans o) (chosen-picks p a ∙ sym (chosen-picks p e ∙ ap (λ (m : ℕ). picks_from p m 0) to ∙ picks-cat p a _ 0 ∙ rw (zero-add, picks-none p (e - a) a (rw (← to) f), append-nil)))
 
 -- rows picked by p, none from len on: by any offsets that do not fall and fit
 module _ {o : ℕ → ℕ} {len : ℕ} (mounts : Mounts o len) {p : ℕ → Bool} (past : (j : ℕ) → len ≤ j → p j ≡ false) where

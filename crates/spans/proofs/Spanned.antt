@@ -6,7 +6,6 @@ use mathlib.Core.Path.{◌≡◌, sym, ap, ◌∙◌}
 use native.Mathlib.Nat.{add-zero, zero-add, add_assoc, mul-suc, mul-le-mul_left, le_refl}
 use native.Mathlib.Omega.{arith}
 use lib.ListN.{length}
-use Rattle.format.specs.Bytes.{le}
 use Rattle.format.specs.Rows.{set_rows, Below}
 use Rattle.format.specs.Slots.{pick, picks_from, count_up}
 use Rattle.words.specs.Run.{LowestRun}
@@ -89,11 +88,9 @@ module _ {w : ℕ} {b : List ℕ} {first base word from to rest : ℕ} (h : Lowe
   pub rising-rest : Rising w b first (set_rows base rest)
   rising-rest = record { len = r.len; small = r.small; below = rest_below h r.below; inside = r.inside; next = r.next }
 
-  module _ {x y : ℕ} (ex : x ≡ le w b (first + w * to)) (ey : y ≡ le w b (first + w * from)) where
+  module _ {x y : ℕ} (ex : x ≡ offset_from w b first to) (ey : y ≡ offset_from w b first from) where
     pub read-rises : y ≤ x
-    unfolding offset_from
     read-rises = run-rises h r.below {o = offset_from w b first} (record { next = r.next }) ex ey
 
     pub read-spans : spans (offset_from w b first) (set_rows base word) ≡ x - y + spans (offset_from w b first) (set_rows base rest)
-    unfolding offset_from
     read-spans = run-spans h r.below {o = offset_from w b first} (record { next = r.next }) ex ey

@@ -1,15 +1,16 @@
 -- What lies between the offsets of rows: how many bytes or child rows they have, read off a buffer of offsets. Assumes nothing.
-use Rattle.std.specs.Prelude.{ℕ, suc, ◌+◌, ◌-◌, ◌*◌, ◌^◌, ◌≤◌, ◌<◌, List, [], ◌∷◌, length, get_or}
+use Rattle.std.specs.Prelude.{ℕ, suc, ◌+◌, ◌-◌, ◌*◌, ◌^◌, ◌≤◌, ◌<◌, List, [], ◌∷◌, length}
 use Rattle.format.specs.Bytes.{le}
+use Rattle.format.specs.Node.{skip, first_at}
 use Rattle.format.specs.Rows.{Below}
 
 -- row r's offset, of w bytes, where row 0's stands at `first`
 unfoldable pub offset_from : ℕ → List ℕ → ℕ → ℕ → ℕ
 offset_from w b first r = le w b (first + w * r)
 
--- where row 0's offset of list node i stands, of w bytes: behind those of skipped rows, by the node table
+-- where row 0's offset of list node i stands, of w bytes: behind those of skipped rows
 abbrev pub first_offset : List ℕ → ℕ → ℕ → ℕ
-first_offset table w i = get_or table (10 * i + 6) 0 + w * get_or table (10 * i + 3) 0
+first_offset b w i = first_at b i + w * skip b i
 
 -- from each row's offset to the next, for all rows of a list
 unfoldable pub spans : (ℕ → ℕ) → List ℕ → ℕ

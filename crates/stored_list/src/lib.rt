@@ -6,11 +6,12 @@ ghost use Rattle.format.specs.Put.{Wrote};
 ghost use Rattle.format.specs.Rows.{set_rows, Below};
 ghost use Rattle.format.specs.Slots.{picks_from, runs_from, starts_and_ends};
 ghost use Rattle.slots.specs.Slot.{slot_in};
-ghost use Rattle.predicate.specs.Selection.{entries_on};
+ghost use Rattle.predicate.specs.Entries.{entries_on};
 
 use format::Route;
 use slices::SlicesIterator;
 use slots::Source;
+use words::SetRows;
 
 // The rows base + k for the set bits k of a word, at place `at` of the list.
 fn put_word(list: &mut [u32], at: usize, base: usize, word: u64) -> usize
@@ -19,10 +20,7 @@ fn put_word(list: &mut [u32], at: usize, base: usize, word: u64) -> usize
     ensures { Wrote list.old at (set_rows base word) list.new result }
 {
     let mut here = at;
-    let mut x = word;
-    while x != 0 {
-        let row = base + u64::trailing_zeros(x) as usize;
-        x = x & std::num::wrapping_sub_u64(x, 1);
+    for row in SetRows::new(base, word) {
         list[here] = row as u32;
         here += 1;
     }

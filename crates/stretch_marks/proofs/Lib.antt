@@ -1,2 +1,2 @@
--- Laws of bitmaps marked stretch by stretch.
-mod Stretching
+-- Laws of bitmaps marked run by run.
+mod RunMarks

@@ -20,7 +20,7 @@ use Rattle.slots.specs.Source.{slot_of}
 use Rattle.slots.proofs.Reading.{slot-past}
 use Rattle.nesting.specs.Rows.{between, keeps, picks_of, Sifted, AtRuns, AtList}
 use Rattle.nesting.proofs.Between.{split, empty, above, told}
-use Rattle.nesting.proofs.Runs.{rows_from, rows_to, group, carried-any}
+use Rattle.nesting.proofs.RunRows.{rows_from, rows_to, group, carried-any}
 use Rattle.nesting.proofs.Tree.{kept-shared, kept-runs, kept-carried, kept-spans-of, kept-all, kept-cut, one-of}
 use Rattle.nesting.proofs.ListAt.{list-spans}
 use Rattle.stretches.proofs.Owned.{owned-none, owned-all}
@@ -97,7 +97,7 @@ module _ (b root : List ℕ) (sound : Sound b) (rooted : Sifted root (rows b 0))
         ∙ ap (λ (k : ℕ). ltb 0 (length (kept_rows b root k))) (sym up))
 
   -- a run, by its rows
-  module _ {table : List ℕ} {p : ℕ} (a : AtRuns b table p) where
+  module _ {p : ℕ} (a : AtRuns b p) where
     run-above : parent b (suc p) ≡ p
     run-above = sound.shape.under p a.inside (rw a.is_runs is.OneChild.runs)
 
@@ -110,7 +110,7 @@ module _ (b root : List ℕ) (sound : Sound b) (rooted : Sifted root (rows b 0))
         ∙ sym (kept-cut b root sound rooted p (rows_from b p j) (rows_to b p j) a.inside)
 
   -- child rows of a list
-  module _ {table : List ℕ} {w p : ℕ} (a : AtList b table w p) where
+  module _ {w p : ℕ} (a : AtList b w p) where
     list-above : parent b (suc p) ≡ p
     list-above = sound.shape.under p a.inside (one-of a.is_list)
 

@@ -1,10 +1,12 @@
 -- Stretches of rows that are alike; what was told last of each node; where a list's rows were looked for. Assumes nothing.
-use Rattle.std.specs.Prelude.{ℕ, suc, ◌+◌, ◌-◌, ◌*◌, ◌≤◌, ◌<◌, Bool, true, not, List, ◌≡◌, eqb, length, get_or, set}
-use mir.Val.{bool_byte}
+use Rattle.std.specs.Prelude.{ℕ, suc, ◌-◌, ◌≤◌, ◌<◌, Bool, true, false, List, ◌≡◌, slice_index_or}
 use Rattle.format.specs.Node.{node_count, rows, skip, valid, first_number, run_end}
 use Rattle.format.specs.Slots.{All}
-use Rattle.nesting.specs.Rows.{keeps}
+use Rattle.nesting.specs.declared.Counted.{Counted}
+use Rattle.nesting.specs.Rows.{keeps, picks_in}
 use Rattle.stretches.specs.declared.Place.{Place}
+use Rattle.stretches.specs.declared.Place.TheVariants.{Row, Gap}
+use Rattle.stretches.specs.declared.Seen.{Seen}
 
 -- of n rows, row r and those after it up to e are alike: all pass the test, or none
 pub record Alike (p : ℕ → Bool) (r n : ℕ) (t : Bool) (e : ℕ) : Type 0 where
@@ -12,16 +14,28 @@ pub record Alike (p : ℕ → Bool) (r n : ℕ) (t : Bool) (e : ℕ) : Type 0 wh
   pub high : e ≤ n
   pub same : All p t r e
 
--- four numbers a node: of rows from the first to the second it was told that they are kept, or, where the third is 0, that they are not; the
--- fourth, a row of the list above, is a hint of which nothing is asked
-pub record Seen (b root seen : List ℕ) : Type 0 where
-  pub size : length seen ≡ 256
-  pub high : (i : ℕ) → i < node_count b → get_or seen (4 * i + 1) 0 ≤ rows b i
-  pub same : (i : ℕ) → i < node_count b → All (keeps b root i) (not (eqb (get_or seen (4 * i + 2) 0) 0)) (get_or seen (4 * i) 0) (get_or seen (4 * i + 1) 0)
+-- the bytes of the journal; row r of its node i is kept; and so are node i's rows from r up to e, or none of them is
+abbrev pub bytes_in : Counted → List ℕ
+bytes_in c = c.journal.now.bytes.now
 
--- those of node i replaced
-unfoldable pub noted : List ℕ → ℕ → ℕ → Bool → ℕ → ℕ → List ℕ
-noted seen i r t e row = set (set (set (set seen (4 * i) r) (4 * i + 1) e) (4 * i + 2) (bool_byte t)) (4 * i + 3) row
+abbrev pub kept_in : Counted → ℕ → ℕ → Bool
+kept_in c = keeps (bytes_in c) (picks_in c.source)
+
+abbrev pub AlikeRows : Counted → (i r : ℕ) (t : Bool) (e : ℕ) → Type 0
+AlikeRows c i r t e = Alike (kept_in c i) r (rows (bytes_in c) i) t e
+
+-- of n rows, those that were told of are as they were told; the row to look from is a hint of which nothing is asked
+pub record Holds (p : ℕ → Bool) (n : ℕ) (s : Seen) : Type 0 where
+  pub high : s.stretch.end ≤ n
+  pub same : All p s.stretch.kept s.from s.stretch.end
+
+-- nothing was told
+abbrev pub unseen : Seen
+unseen = record { from = 0; stretch = record { kept = false; end = 0 }; row = 0 }
+
+-- what was told last of each node
+pub record Recalled (b root : List ℕ) (seen : List Seen) : Type 0 where
+  pub at : (i : ℕ) → i < node_count b → Holds (keeps b root i) (rows b i) (slice_index_or seen i unseen)
 
 -- no row of list node i before row r has child rows past x
 pub record Before (w : ℕ) (b : List ℕ) (i x r : ℕ) : Type 0 where
@@ -40,11 +54,20 @@ pub record Ended (b : List ℕ) (i r x e : ℕ) : Type 0 where
   pub high : e ≤ rows b (suc i)
   pub ends : (j : ℕ) → r < j → j < e → run_end b i j - skip b i ≤ x
 
--- child row x of list node i is one of a valid row; or no child row from x up to an end is
-pub record Found (w : ℕ) (b : List ℕ) (i x : ℕ) (a : Place) : Type 0 where
-  pub high : a.end ≤ rows b (suc i)
-  pub none : x < a.end → (y r : ℕ) → x ≤ y → y < a.end → r < rows b i → valid b i r ≡ true → first_number w b i r ≤ y → y < first_number w b i (suc r) → ⊥
-  pub inside : a.end ≤ x → a.row < rows b i
-  pub is_valid : a.end ≤ x → valid b i a.row ≡ true
-  pub low : a.end ≤ x → first_number w b i a.row ≤ x
-  pub past : a.end ≤ x → x < first_number w b i (suc a.row)
+-- child row x of list node i is one of row r, which is valid
+pub record InRow (w : ℕ) (b : List ℕ) (i x r : ℕ) : Type 0 where
+  pub inside : r < rows b i
+  pub is_valid : valid b i r ≡ true
+  pub low : first_number w b i r ≤ x
+  pub past : x < first_number w b i (suc r)
+
+-- it is one of no valid row, nor is a child row after it up to e
+pub record InNone (w : ℕ) (b : List ℕ) (i x e : ℕ) : Type 0 where
+  pub some : x < e
+  pub high : e ≤ rows b (suc i)
+  pub none : (y r : ℕ) → x ≤ y → y < e → r < rows b i → valid b i r ≡ true → first_number w b i r ≤ y → y < first_number w b i (suc r) → ⊥
+
+-- where it is
+abbrev pub Found : ℕ → List ℕ → ℕ → ℕ → Place → Type 0
+Found w b i x (Row r) = InRow w b i x r
+Found w b i x (Gap e r) = InNone w b i x e

@@ -1,49 +1,27 @@
-// What is asked on the way, of the mask and of one list, and what is kept in mind of it.
+// What is asked on the way, of the mask, of one list and of one node's runs.
 ghost use Rattle.std.specs.Prelude.{◌≡◌, false, suc, ◌≤◌, ◌<◌};
 ghost use Rattle.format.specs.Node.{rows, valid};
 ghost use Rattle.format.specs.Slots.{Sought};
-ghost use Rattle.slots.specs.Source.{Lies, slot_of};
-ghost use Rattle.nesting.specs.Rows.{AtRuns, AtList};
-ghost use Rattle.stretches.specs.Stretches.{Alike, Before, Past, Ended, Found, noted};
+ghost use Rattle.slots.specs.Slot.{slot_in};
+ghost use Rattle.stretches.specs.Stretches.{Alike, Before, Past, Ended, Found};
 
 use crate::{Place, Stretch};
-use nesting::table::{NO_BITMAP, least, list_start, list_valid, run_end};
-use slots::{Bits, Source};
-
-// What was told of a node: rows r to end, whether they are kept, and a row of the list above it to look from.
-pub fn note(
-    seen: &mut [usize; 256],
-    node: usize,
-    r: usize,
-    kept: bool,
-    end: usize,
-    row: usize,
-) -> Stretch
-    requires { node < 64 }
-    ensures { (result.kept ≡ kept) × (result.end ≡ end) × (seen.new ≡ noted seen.old node r kept end row) }
-{
-    let at = 4 * node;
-    seen[at] = r;
-    seen[at + 1] = end;
-    seen[at + 2] = kept as usize;
-    seen[at + 3] = row;
-    Stretch { kept, end }
-}
+use nesting::{List, Runs};
+use slots::Source;
 
 // How far the slots from r on are picked, or are not, among len rows.
-pub fn picked(mask: &[u8], bits: Bits, r: usize, len: usize) -> Stretch
-    requires { Lies mask.now bits × (r < len) }
-    ensures { Alike (slot_of mask.now bits) r len result.kept result.end }
+pub fn picked(source: Source, r: usize, len: usize) -> Stretch
+    requires { r < len }
+    ensures { Alike (slot_in source.entry) r len result.kept result.end }
 {
-    let source = Source { bytes: mask, bits };
     match scan::next_run(source, r) {
         Some((start, _)) if r < start => Stretch {
             kept: false,
-            end: least(start, len),
+            end: start.min(len),
         },
         Some((_, end)) => Stretch {
             kept: true,
-            end: least(end, len),
+            end: end.min(len),
         },
         None => Stretch {
             kept: false,
@@ -52,121 +30,67 @@ pub fn picked(mask: &[u8], bits: Bits, r: usize, len: usize) -> Stretch
     }
 }
 
-// A row of list node i to look from for child row x: the one that served last, where no row before it has x, and else the first.
-pub fn list_from(
-    journal: &[u8],
-    table: &[u32; 640],
-    w: usize,
-    i: usize,
-    x: usize,
-    row: usize,
-) -> usize
-    requires { AtList journal.now table.now w i }
-    ensures { Before w journal.now i x result }
+// A list's row to look from for child row x: the one that served last, where no row before it has x, and else the first.
+fn list_from(list: List, x: usize, row: usize) -> usize
+    ensures { Before list.entry.width list.entry.journal.now.bytes.now list.entry.node x result }
 {
-    let len = table[10 * i + 2] as usize;
-    if len < row {
+    if list.rows() < row {
         return 0;
     }
-    if x < list_start(journal, table, w, i, row) {
+    if x < list.start(row) {
         return 0;
     }
     row
 }
 
-// The first row of list node i whose child rows end past x, looked for from such a row on.
-pub fn list_past(
-    journal: &[u8],
-    table: &[u32; 640],
-    w: usize,
-    i: usize,
-    x: usize,
-    row: usize,
-) -> usize
-    requires { AtList journal.now table.now w i }
-    ensures { Past w journal.now i x result }
+// A list's first row whose child rows end past x, looked for from such a row on.
+fn list_past(list: List, x: usize, row: usize) -> usize
+    ensures { Past list.entry.width list.entry.journal.now.bytes.now list.entry.node x result }
 {
-    let len = table[10 * i + 2] as usize;
-    let mut r = list_from(journal, table, w, i, x, row);
-    while r < len {
-        if x < list_start(journal, table, w, i, r + 1) {
-            return r;
-        }
-        r += 1;
-    }
-    r
+    let rows = list.rows();
+    (list_from(list, x, row)..rows)
+        .find(|r| x < list.start(*r + 1))
+        .unwrap_or(rows)
 }
 
-// The valid row of list node i that has child row x of len; `end` is 0 there.
-pub fn list_place(
-    journal: &[u8],
-    table: &[u32; 640],
-    w: usize,
-    i: usize,
-    x: usize,
-    len: usize,
-    row: usize,
-) -> Place
-    requires at_list { AtList journal.now table.now w i }
-    requires x_lt_len { (x < len) × (len ≡ rows journal.now (suc i)) }
-    ensures { Found w journal.now i x result }
+// Where a list has child row x, looked for from a row on.
+pub fn list_place(list: List, x: usize, row: usize) -> Place
+    requires { x < rows list.journal.now.bytes.now (suc list.node) }
+    ensures { Found list.entry.width list.entry.journal.now.bytes.now list.entry.node x result }
 {
-    let q = list_past(journal, table, w, i, x, row);
-    let all = table[10 * i + 2] as usize;
-    if q == all {
-        return Place { row: q, end: len };
+    let q = list_past(list, x, row);
+    if q == list.rows() {
+        return Place::Gap(list.child_rows(), q);
     }
-    let start = list_start(journal, table, w, i, q);
+    let start = list.start(q);
     if x < start {
-        return Place { row: q, end: start };
+        return Place::Gap(start, q);
     }
-    if list_valid(journal, table, w, i, q) {
-        return Place { row: q, end: 0 };
+    if list.valid(q) {
+        return Place::Row(q);
     }
-    let end = list_start(journal, table, w, i, q + 1);
-    Place { row: q, end }
+    Place::Gap(list.start(q + 1), q)
 }
 
-// How far the rows of list node i from q on are valid, up to end.
-pub fn valid_to(
-    journal: &[u8],
-    table: &[u32; 640],
-    w: usize,
-    i: usize,
-    q: usize,
-    end: usize,
-) -> usize
-    requires at_list { AtList journal.now table.now w i }
-    requires q_le_end { (q ≤ end) × (end ≤ rows journal.now i) }
-    ensures { Sought (valid journal.now i) q end false result }
+// How far a list's rows from q on are valid, up to end.
+pub fn valid_to(list: List, q: usize, end: usize) -> usize
+    requires { (q ≤ end) × (end ≤ rows list.journal.now.bytes.now list.node) }
+    ensures { Sought (valid list.entry.journal.now.bytes.now list.entry.node) q end false result }
 {
-    if table[10 * i + 5] == NO_BITMAP {
+    if list.bare() {
         return end;
     }
-    let mut r = q;
-    while r < end {
-        if list_valid(journal, table, w, i, r) {
-            r += 1;
-        } else {
-            return r;
-        }
-    }
-    r
+    (q..end).find(|r| !list.valid(*r)).unwrap_or(end)
 }
 
-// The first run of runs node i after run r that ends, counted after skip, past row x; or, where there is none, how many runs there are.
-pub fn runs_past(journal: &[u8], table: &[u32; 640], i: usize, r: usize, x: usize) -> usize
-    requires { AtRuns journal.now table.now i × (r < rows journal.now (suc i)) }
-    ensures { Ended journal.now i r x result }
+// The first run after run r that ends, counted after skip, past row x; or, where there is none, how many runs there are.
+pub fn runs_past(runs: Runs, r: usize, x: usize) -> usize
+    requires { r < rows runs.journal.now.bytes.now (suc runs.node) }
+    ensures { Ended runs.entry.journal.now.bytes.now runs.entry.node r x result }
 {
-    let len = table[10 * i + 12] as usize;
-    let skip = table[10 * i + 3] as usize;
-    let mut e = r + 1;
-    while e < len {
-        if x < run_end(journal, table, i, e).saturating_sub(skip) {
-            return e;
-        }
-        e += 1;
-    }
-    e
+    let count = runs.count();
+    let skip = runs.skip();
+    (r + 1..count)
+        .find(|e| x < runs.end(*e).saturating_sub(skip))
+        .unwrap_or(count)
 }

@@ -1,3 +1,4 @@
--- The laws of a column of own bytes that is written block by block.
+-- Laws of a selection's blocks, of own bytes and rebuilt offsets written block by block, and of a node's buffers.
+pub mod Blocks
 pub mod TextWalk
 pub mod Buffers

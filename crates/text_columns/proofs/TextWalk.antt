@@ -1,58 +1,69 @@
--- A column of own bytes block by block: what the writer of each form of block asks, and the rebuilt offsets, which carry a sum. Assumes nothing.
-use Prim.Native.Nat.{ℕ, ◌+◌, ◌*◌, ◌-◌, ◌^◌, ◌≤◌, ◌<◌}
-use mathlib.Core.Bool.{Bool}
+-- A column of own bytes block by block: what the writer of each block asks, and the rebuilt offsets, which carry a sum. Assumes nothing.
+use Prim.Native.Nat.{ℕ, ◌+◌, ◌*◌, ◌^◌, ◌≤◌, ◌<◌}
 use mathlib.Core.List.{List, [], ◌++◌}
 use mathlib.Core.Path.{◌≡◌, refl, sym, ap, ◌∙◌}
 use native.Mathlib.Nat.{zero-add}
 use native.Mathlib.Omega.{arith}
 use lib.ListN.{length, get_or, length-append}
-use Rattle.format.specs.Bytes.{bytes_at, to_le}
+use Rattle.std.specs.Prelude.{Some}
+use Rattle.format.specs.Bytes.{to_le}
 use Rattle.format.specs.Put.{Wrote}
-use Rattle.format.specs.Slots.{count_up, picks_from}
 use Rattle.format.specs.Write.{numbers, offsets}
 use Rattle.format.proofs.Measure.{length-to_le}
 use Rattle.format.proofs.Numbers.{le-lt, numbers-append}
 use Rattle.format.proofs.Put.{less, room, then, named, same_size}
 use Rattle.format.proofs.SlotLaws.{chosen-picks}
 use Rattle.predicate.specs.declared.Selection.{Selection}
-use Rattle.predicate.specs.declared.Cursor.{Cursor}
-use Rattle.predicate.specs.declared.Block.TheVariants.{Run, Listed}
-use Rattle.predicate.specs.Selection.{picks_on, InStep, Holds, start}
-use Rattle.predicate.specs.Blocks.{Blocked, Gives}
-use Rattle.predicate.proofs.Picks.{picks_start}
+use Rattle.predicate.specs.declared.Block.{Block}
+use Rattle.predicate.specs.declared.Block.TheVariants.{Run}
+use Rattle.predicate.specs.declared.Blocks.{Blocks}
+use Rattle.predicate.specs.Selection.{selected, reach}
+use Rattle.predicate.specs.Blocks.{kept_by, block_rows, rows_left, Begun, GivesBlock}
+use Rattle.predicate.proofs.Steps.{rows-start}
 use Rattle.append.specs.Cells.{Among}
-use Rattle.texts.specs.Texts.{offset, start_in, sizes_of, texts_of, ends_from, total_of, Offsets, Texts}
-use Rattle.texts.proofs.TextLaws.{texts-none, texts-append, texts-fewer, offsets-fewer, sizes-append, total-append, ends-append, numbers-offsets, rises, Ending, begins, ended, same}
+use Rattle.append.proofs.CellLaws.{RowsLeft, rows-all, part-needs, part-more, rows-done, among-left, among-right}
+use Rattle.texts.specs.declared.OwnBytes.{OwnBytes}
+use Rattle.texts.specs.Texts.{offset, sizes_of, ends_from, total_of, Offsets}
+use Rattle.texts.specs.Own.{Have, own_of}
+use Rattle.texts.proofs.TextLaws.{texts-none, texts-append, texts-fewer, offsets-fewer, sizes-append, total-append, ends-append, numbers-offsets, rises, Ending, begins, ended}
 use Rattle.texts.proofs.NodeLaws.{total-chosen}
-use Rattle.columns.proofs.Walk.{Cuts, Walked, walk-room, among}
+use Rattle.text_columns.proofs.Blocks.{among-all, selected-kept}
 
 -- ---- own bytes
 
-pub texts-cut : (o : ℕ → ℕ) (b : List ℕ) (from : ℕ) → Cuts (texts_of o b from)
-texts-cut o b from = record { none = texts-none o b from [] refl; parts = texts-append o b from }
+-- those of the rows that are left are still to be written
+pub record Walked (own : OwnBytes) (sel : Selection) (old : List ℕ) (at : ℕ) (new : List ℕ) (here : ℕ) (s : Blocks) : Type 0 where
+  pub same : s.sel ≡ sel
+  pub rows : RowsLeft (Have own) (own_of own) (selected sel) old at new here (rows_left s)
 
-module _ {u w : ℕ} {b : List ℕ} {first from : ℕ} {sel : Selection} {p : ℕ → Bool} {len : ℕ} {list old : List ℕ} {at : ℕ} {new : List ℕ} {here : ℕ} {cur : Cursor}
-    (k : Walked (texts_of (start_in u w b first) b from) sel p len list old at new here cur) (h : Texts u w b first from len) (fit : at + length (texts_of (start_in u w b first) b from (picks_from p len 0)) ≤ length old) {d : Cursor} where
-  pub run-texts : {a e : ℕ} → Blocked sel p len list cur.place (Run a e d)
-      → ((a ≤ e) × Texts u w b first from e) × (here + length (texts_of (start_in u w b first) b from (count_up (e - a) a)) ≤ length new)
-  run-texts {a} {e} g = ((g.0, texts-fewer e g.1 h), walk-room k (texts-cut (start_in u w b first) b from) g.2 fit)
+module _ {own : OwnBytes} {sel : Selection} {old : List ℕ} {at : ℕ} where
+  pub walk-none : {s r : Blocks} → Have own (reach sel) → Begun sel r → s ≡ r → Walked own sel old at old at s
+  walk-none h b e = rw e (record { same = b.0; rows = rows-all (among-all sel h) (rows-start b) })
 
-  pub word-texts : {base : ℕ} {xs : List ℕ} → (base ≤ len) × Gives sel p len list cur.place xs d
-      → Among (Texts u w b first from) xs × (here + length (texts_of (start_in u w b first) b from xs) ≤ length new)
-  word-texts g = (among g.1 h, walk-room k (texts-cut (start_in u w b first) b from) g.1 fit)
+  module _ {new : List ℕ} {here : ℕ} {s : Blocks} (k : Walked own sel old at new here s) where
+    module _ {b : Block} {t : Blocks} (g : GivesBlock s (Some b) t) where
+      pub walk-needs : at + length (own_of own (selected sel)) ≤ length old → Among (Have own) (block_rows b) × (here + length (own_of own (block_rows b)) ≤ length new)
+      walk-needs fit = part-needs k.rows (block_rows b) (rows_left t) g.gives.1 (texts-append _ _ _ (block_rows b) (rows_left t)) fit
 
-  pub list-texts : {i j : ℕ} → Blocked sel p len list cur.place (Listed i j d)
-      → ((i ≤ j) × (j ≤ length list)) × (Among (Texts u w b first from) (bytes_at list i (j - i)) × (here + length (texts_of (start_in u w b first) b from (bytes_at list i (j - i))) ≤ length new))
-  list-texts g = ((g.0, g.1), (among g.2 h, walk-room k (texts-cut (start_in u w b first) b from) g.2 fit))
+      pub walk-more : {last : List ℕ} {next : ℕ} → Wrote new here (own_of own (block_rows b)) last next → Walked own sel old at last next t
+      walk-more wrote = record { same = g.same ∙ k.same; rows = part-more k.rows (block_rows b) (rows_left t) g.gives.1 (texts-append _ _ _ (block_rows b) (rows_left t)) wrote }
+
+    pub walk-done : rows_left s ≡ [] → Wrote old at (own_of own (selected sel)) new here
+    walk-done e = rows-done k.rows (texts-none _ _ _ _ e)
+
+    -- a block that is a run lies among the rows
+    pub walk-run : {a e : ℕ} {t : Blocks} → GivesBlock s (Some (Run a e)) t → Have own (reach sel) → (a ≤ e) × Have own e
+    walk-run {a} {e} g h = let w = rw k.same at g.gives.0 in (w.0, texts-fewer e w.1 h)
 
 -- ---- rebuilt offsets
 
--- the sizes of the kept rows add up to a number of w bytes
-pub total-lt : (w : ℕ) (b : List ℕ) (first : ℕ) (p : ℕ → Bool) (n : ℕ) → Offsets w b first n → ((i : ℕ) → get_or b i 0 < 256) → total_of (sizes_of (offset w b first) (picks_from p n 0)) < 256 ^ w
-unfolding offset
-total-lt w b first p n h small =
-    let whole = rw (chosen-picks p n) at (total-chosen (offset w b first) p n (rises h)) in
-    omega (arith, whole, le-lt w b (first + w * n) small)
+-- the sizes of rows add up to what lies between the first offset and the last at most
+module _ (w : ℕ) (b : List ℕ) (first : ℕ) (small : (i : ℕ) → get_or b i 0 < 256) where
+  pub total-lt : (sel : Selection) → Offsets w b first (reach sel) → total_of (sizes_of (offset w b first) (selected sel)) < 256 ^ w
+  unfolding offset
+  total-lt sel h =
+      let whole = rw (chosen-picks (kept_by sel) (reach sel), ← selected-kept sel) at (total-chosen (offset w b first) (kept_by sel) (reach sel) (rises h)) in
+      omega (arith, whole, le-lt w b (first + w * reach sel) small)
 
 -- the first offset is 0; behind it stands where the rows end
 module _ (w : ℕ) (sizes : List ℕ) where
@@ -74,41 +85,46 @@ module _ (w : ℕ) (sizes : List ℕ) where
     pub offsets-done : {new : List ℕ} {last : ℕ} → Wrote mid next (numbers w (ends_from 0 sizes)) new last → Wrote old at (numbers w (offsets sizes)) new last
     offsets-done more = named (then wrote more) (sym (numbers-offsets w sizes))
 
--- of where all kept rows end, it is left to write where the rows from the cursor's place on end; the row before ends at `sum`
-pub record Summed (w : ℕ) (o : ℕ → ℕ) (sel : Selection) (p : ℕ → Bool) (len : ℕ) (list old : List ℕ) (at : ℕ) (new : List ℕ) (here sum : ℕ) (cur : Cursor) : Type 0 where
-  pub step : InStep sel p len list cur
-  pub ending : Ending w o 0 (picks_from p len 0) old at new here sum (picks_on p len cur.place)
+-- of where all rows end, it is left to write where the rows that are left end; the row before them ends at `sum`
+pub record Summed (w : ℕ) (o : ℕ → ℕ) (P : ℕ → Type 0) (sel : Selection) (old : List ℕ) (at : ℕ) (new : List ℕ) (here sum : ℕ) (s : Blocks) : Type 0 where
+  pub same : s.sel ≡ sel
+  pub among : Among P (rows_left s)
+  pub ending : Ending w o 0 (selected sel) old at new here sum (rows_left s)
 
-module _ {w : ℕ} {o : ℕ → ℕ} {sel : Selection} {p : ℕ → Bool} {len : ℕ} {list old : List ℕ} {at : ℕ} where
-  pub sum-none : Holds sel p len list → Summed w o sel p len list old at old at 0 start
-  sum-none h = record { step = h; ending = rw (picks_start p len) begins }
+module _ {w : ℕ} {o : ℕ → ℕ} {P : ℕ → Type 0} {sel : Selection} {old : List ℕ} {at : ℕ} where
+  pub sum-none : {s r : Blocks} → P (reach sel) → Begun sel r → s ≡ r → Summed w o P sel old at old at 0 s
+  sum-none h b e = rw e (record { same = b.0; among = rw (rows-start b) (among-all sel h); ending = rw (rows-start b) begins })
 
-  module _ {new : List ℕ} {here sum : ℕ} {cur : Cursor} (k : Summed w o sel p len list old at new here sum cur) where
-    module _ {xs : List ℕ} {d : Cursor} (g : Gives sel p len list cur.place xs d) where
+  module _ {new : List ℕ} {here sum : ℕ} {s : Blocks} (k : Summed w o P sel old at new here sum s) where
+    module _ {b : Block} {t : Blocks} (g : GivesBlock s (Some b) t) where
       -- the sizes of a block's rows, and those of the rows behind it
-      sizes-off : sizes_of o (picks_on p len cur.place) ≡ sizes_of o xs ++ sizes_of o (picks_on p len d.place)
-      sizes-off = ap (sizes_of o) g.rest ∙ sizes-append o xs (picks_on p len d.place)
+      sizes-off : sizes_of o (rows_left s) ≡ sizes_of o (block_rows b) ++ sizes_of o (rows_left t)
+      sizes-off = ap (sizes_of o) g.gives.1 ∙ sizes-append o (block_rows b) (rows_left t)
 
-      total-off : total_of (sizes_of o (picks_on p len cur.place)) ≡ total_of (sizes_of o xs) + total_of (sizes_of o (picks_on p len d.place))
-      total-off = ap total_of sizes-off ∙ total-append (sizes_of o xs) (sizes_of o (picks_on p len d.place))
+      total-off : total_of (sizes_of o (rows_left s)) ≡ total_of (sizes_of o (block_rows b)) + total_of (sizes_of o (rows_left t))
+      total-off = ap total_of sizes-off ∙ total-append (sizes_of o (block_rows b)) (sizes_of o (rows_left t))
 
-      ends-off : numbers w (ends_from sum (sizes_of o (picks_on p len cur.place)))
-          ≡ numbers w (ends_from sum (sizes_of o xs)) ++ numbers w (ends_from (sum + total_of (sizes_of o xs)) (sizes_of o (picks_on p len d.place)))
+      ends-off : numbers w (ends_from sum (sizes_of o (rows_left s)))
+          ≡ numbers w (ends_from sum (sizes_of o (block_rows b))) ++ numbers w (ends_from (sum + total_of (sizes_of o (block_rows b))) (sizes_of o (rows_left t)))
       ends-off =
           ap (λ (l : List ℕ). numbers w (ends_from sum l)) sizes-off
-          ∙ ap (numbers w) (ends-append sum (sizes_of o xs) (sizes_of o (picks_on p len d.place)))
-          ∙ numbers-append w (ends_from sum (sizes_of o xs)) _
+          ∙ ap (numbers w) (ends-append sum (sizes_of o (block_rows b)) (sizes_of o (rows_left t)))
+          ∙ numbers-append w (ends_from sum (sizes_of o (block_rows b))) _
+
+      pub sum_among : Among P (block_rows b)
+      sum_among = among-left (block_rows b) (rows_left t) k.among g.gives.1
 
       -- the block's last end is below any number that the sum of all sizes is below, and its ends fit
-      pub sum_fits : (m : ℕ) → total_of (sizes_of o (picks_from p len 0)) < m → at + length (numbers w (ends_from 0 (sizes_of o (picks_from p len 0)))) ≤ length old
-          → (sum + total_of (sizes_of o xs) < m) × (here + length (numbers w (ends_from sum (sizes_of o xs))) ≤ length new)
-      sum_fits m l fit = (omega (arith, k.ending.sums, total-off), room (numbers w (ends_from sum (sizes_of o xs))) _ k.ending.left ends-off fit)
+      pub sum_fits : (m : ℕ) → total_of (sizes_of o (selected sel)) < m → at + length (numbers w (ends_from 0 (sizes_of o (selected sel)))) ≤ length old
+          → (sum + total_of (sizes_of o (block_rows b)) < m) × (here + length (numbers w (ends_from sum (sizes_of o (block_rows b)))) ≤ length new)
+      sum_fits m l fit = (omega (arith, k.ending.sums, total-off), room (numbers w (ends_from sum (sizes_of o (block_rows b)))) _ k.ending.left ends-off fit)
 
       -- they were written
-      pub sum_more : {last : List ℕ} {next more : ℕ} → Wrote new here (numbers w (ends_from sum (sizes_of o xs))) last next × (more ≡ sum + total_of (sizes_of o xs))
-          → Summed w o sel p len list old at last next more d
-      sum_more {last} {next} {more} (wrote, q) = record {
-        step = g.step;
+      pub sum_more : {last : List ℕ} {next more : ℕ} → Wrote new here (numbers w (ends_from sum (sizes_of o (block_rows b)))) last next → more ≡ sum + total_of (sizes_of o (block_rows b))
+          → Summed w o P sel old at last next more t
+      sum_more wrote q = record {
+        same = g.same ∙ k.same;
+        among = among-right (block_rows b) (rows_left t) k.among g.gives.1;
         ending = record {
           sums = omega (arith, k.ending.sums, total-off);
           left = rw q (less k.ending.left ends-off wrote);
@@ -116,31 +132,10 @@ module _ {w : ℕ} {o : ℕ → ℕ} {sel : Selection} {p : ℕ → Bool} {len :
       }
 
     -- no row is left
-    pub sum_done : picks_on p len cur.place ≡ [] → Wrote old at (numbers w (ends_from 0 (sizes_of o (picks_from p len 0)))) new here × (sum ≡ total_of (sizes_of o (picks_from p len 0)))
-    sum_done e = let r = ended k.ending e refl in (r.0, r.1 ∙ zero-add (total_of (sizes_of o (picks_from p len 0))))
+    pub sum_done : rows_left s ≡ [] → Wrote old at (numbers w (ends_from 0 (sizes_of o (selected sel)))) new here × (sum ≡ total_of (sizes_of o (selected sel)))
+    sum_done e = let r = ended k.ending e refl in (r.0, r.1 ∙ zero-add (total_of (sizes_of o (selected sel))))
 
-    pub sum_same : length new ≡ length old
-    sum_same = same k.ending
-
--- what the writer of each form of block asks
-module _ {w : ℕ} {b : List ℕ} {first : ℕ} {sel : Selection} {p : ℕ → Bool} {len : ℕ} {list old : List ℕ} {at : ℕ} {new : List ℕ} {here sum : ℕ} {cur : Cursor}
-    (k : Summed w (offset w b first) sel p len list old at new here sum cur) (h : Offsets w b first len) (small : (i : ℕ) → get_or b i 0 < 256)
-    (fit : at + length (numbers w (ends_from 0 (sizes_of (offset w b first) (picks_from p len 0)))) ≤ length old) {d : Cursor} where
-  block-fits : {xs : List ℕ} → Gives sel p len list cur.place xs d
-      → (sum + total_of (sizes_of (offset w b first) xs) < 256 ^ w) × (here + length (numbers w (ends_from sum (sizes_of (offset w b first) xs))) ≤ length new)
-  block-fits g = sum_fits k g (256 ^ w) (total-lt w b first p len h small) fit
-
-  pub run-offsets : {a e : ℕ} → Blocked sel p len list cur.place (Run a e d)
-      → ((a ≤ e) × Offsets w b first e)
-      × ((sum + total_of (sizes_of (offset w b first) (count_up (e - a) a)) < 256 ^ w) × (here + length (numbers w (ends_from sum (sizes_of (offset w b first) (count_up (e - a) a)))) ≤ length new))
-  run-offsets {a} {e} g = ((g.0, offsets-fewer e g.1 h), block-fits g.2)
-
-  pub word-offsets : {base : ℕ} {xs : List ℕ} → (base ≤ len) × Gives sel p len list cur.place xs d
-      → Among (Offsets w b first) xs × ((sum + total_of (sizes_of (offset w b first) xs) < 256 ^ w) × (here + length (numbers w (ends_from sum (sizes_of (offset w b first) xs))) ≤ length new))
-  word-offsets g = (among g.1 h, block-fits g.1)
-
-  pub list-offsets : {i j : ℕ} → Blocked sel p len list cur.place (Listed i j d)
-      → ((i ≤ j) × (j ≤ length list))
-      × (Among (Offsets w b first) (bytes_at list i (j - i))
-      × ((sum + total_of (sizes_of (offset w b first) (bytes_at list i (j - i))) < 256 ^ w) × (here + length (numbers w (ends_from sum (sizes_of (offset w b first) (bytes_at list i (j - i))))) ≤ length new)))
-  list-offsets g = ((g.0, g.1), (among g.2 h, block-fits g.2))
+-- a block that is a run lies among the rows
+pub sum-run : {w : ℕ} {b : List ℕ} {first : ℕ} {sel : Selection} {old : List ℕ} {at : ℕ} {new : List ℕ} {here sum : ℕ} {s : Blocks} {a e : ℕ} {t : Blocks}
+    → Summed w (offset w b first) (Offsets w b first) sel old at new here sum s → GivesBlock s (Some (Run a e)) t → Offsets w b first (reach sel) → (a ≤ e) × Offsets w b first e
+sum-run {e = e} k g h = let l = rw k.same at g.gives.0 in (l.0, offsets-fewer e l.1 h)

@@ -2,13 +2,12 @@
 #![tactic(auto)]
 
 ghost use Rattle.std.specs.Prelude.{◌≡◌, suc, ◌+◌, ◌-◌, ◌*◌, ◌^◌, ◌<◌, ◌≤◌, ◌⊎◌, length};
-ghost use Rattle.format.specs.Bytes.{bytes_at};
 ghost use Rattle.format.specs.Put.{Wrote};
 ghost use Rattle.format.specs.Rows.{set_rows};
 ghost use Rattle.format.specs.Slots.{count_up};
 ghost use Rattle.format.specs.Write.{numbers};
 ghost use Rattle.append.specs.Cells.{Among};
-ghost use Rattle.texts.specs.Texts.{offset, size, sizes_of, ends_from, total_of, Offsets};
+ghost use Rattle.texts.specs.Texts.{offset, size, sizes_of, ends_from, total_of, Offsets as Rising};
 ghost use Rattle.texts.specs.Own.{Have, own_of};
 
 use append::rows::{ListRows, Rows};
@@ -64,15 +63,14 @@ impl OwnBytes<'_> {
         here
     }
 
-    // The same of the rows that entries i to j of a list name.
-    pub fn put_list(&self, out: &mut [u8], at: usize, list: &[u32], i: usize, j: usize) -> usize
-        requires i_le_j { (i ≤ j) × (j ≤ length list.now) }
-        requires among { Among (Have self.now) (bytes_at list.now i (j - i)) }
-        requires i_in_bounds { at + length (own_of self.now (bytes_at list.now i (j - i))) ≤ length out.old }
-        ensures { Wrote out.old at (own_of self.now (bytes_at list.now i (j - i))) out.new result }
+    // The same of the rows that a list names.
+    pub fn put_list(&self, out: &mut [u8], at: usize, rows: &[u32]) -> usize
+        requires among { Among (Have self.now) rows.now }
+        requires rows_in_bounds { at + length (own_of self.now rows.now) ≤ length out.old }
+        ensures { Wrote out.old at (own_of self.now rows.now) out.new result }
     {
         let mut here = at;
-        for row in ListRows::new(&list[i..j]) {
+        for row in ListRows::new(rows) {
             here = self.put_run(out, here, row, row + 1);
         }
         here
@@ -86,68 +84,64 @@ pub struct Ended {
     pub sum: usize,
 }
 
-// How many own bytes row r has.
-fn size_of<N: Number>(src: &[u8], first: usize, row: usize) -> usize
-    requires row_in_bounds { first + N.WIDTH * row + N.WIDTH + N.WIDTH ≤ length src.now }
-    requires row_bound { offset N.WIDTH src.now first row ≤ offset N.WIDTH src.now first (suc row) }
-    ensures { result ≡ size (offset N.WIDTH src.now first) row }
-{
-    let low = N::get(src, first + N::WIDTH * row).wide();
-    let high = N::get(src, first + N::WIDTH * row + N::WIDTH).wide();
-    (high - low) as usize
+// Rows with own bytes by their offsets alone, of a width that N has: row 0's stands at `first`.
+#[derive(Clone, Copy)]
+pub struct Offsets<'a> {
+    pub src: &'a [u8],
+    pub first: usize,
 }
 
-// Where each of rows a to e ends, if the first starts at `sum`: each offset moved by the same distance, so no sum is carried.
-pub fn offsets_run<N: Number>(
-    out: &mut [u8],
-    at: usize,
-    src: &[u8],
-    first: usize,
-    a: usize,
-    e: usize,
-    sum: usize,
-) -> Ended
-    requires a_le_e { (a ≤ e) × Offsets N.WIDTH src.now first e }
-    requires a_bound { (sum + total_of (sizes_of (offset N.WIDTH src.now first) (count_up (e - a) a)) < 256 ^ N.WIDTH) × (at + length (numbers N.WIDTH (ends_from sum (sizes_of (offset N.WIDTH src.now first) (count_up (e - a) a)))) ≤ length out.old) }
-    ensures wrote { Wrote out.old at (numbers N.WIDTH (ends_from sum (sizes_of (offset N.WIDTH src.now first) (count_up (e - a) a)))) out.new result.next }
-    ensures sum_value { result.sum ≡ sum + total_of (sizes_of (offset N.WIDTH src.now first) (count_up (e - a) a)) }
-{
-    let start = sum as u64;
-    let low = N::get(src, first + N::WIDTH * a).wide();
-    let mut here = at;
-    for row in a..e {
-        let high = N::get(src, first + N::WIDTH * (row + 1)).wide();
-        here = N::low(high - low + start).put(out, here);
+impl Offsets<'_> {
+    // How many own bytes row r has.
+    fn size<N: Number>(self, row: usize) -> usize
+        requires row_in_bounds { self.first + N.WIDTH * row + N.WIDTH + N.WIDTH ≤ length self.src.now }
+        requires row_bound { offset N.WIDTH self.src.now self.first row ≤ offset N.WIDTH self.src.now self.first (suc row) }
+        ensures { result ≡ size (offset N.WIDTH self.entry.src.now self.entry.first) row }
+    {
+        let low = N::get(self.src, self.first + N::WIDTH * row).wide();
+        let high = N::get(self.src, self.first + N::WIDTH * row + N::WIDTH).wide();
+        (high - low) as usize
     }
-    let last = N::get(src, first + N::WIDTH * e).wide();
-    Ended {
-        next: here,
-        sum: sum + (last - low) as usize,
-    }
-}
 
-// Where each of the rows ends, one by one.
-pub fn offsets_each<N: Number, R: Rows>(
-    out: &mut [u8],
-    at: usize,
-    src: &[u8],
-    first: usize,
-    rows: R,
-    sum: usize,
-) -> Ended
-    requires among { Among (Offsets N.WIDTH src.now first) (R.rows rows) }
-    requires rows_bound { (sum + total_of (sizes_of (offset N.WIDTH src.now first) (R.rows rows)) < 256 ^ N.WIDTH) × (at + length (numbers N.WIDTH (ends_from sum (sizes_of (offset N.WIDTH src.now first) (R.rows rows)))) ≤ length out.old) }
-    ensures wrote { Wrote out.old at (numbers N.WIDTH (ends_from sum (sizes_of (offset N.WIDTH src.now first) (R.rows rows)))) out.new result.next }
-    ensures sum_value { result.sum ≡ sum + total_of (sizes_of (offset N.WIDTH src.now first) (R.rows rows)) }
-{
-    let mut here = at;
-    let mut end = sum;
-    for row in rows {
-        end += size_of::<N>(src, first, row);
-        here = N::low(end as u64).put(out, here);
+    // Where each of rows a to e ends, if the first starts at `to.sum`: each offset moved by the same distance, so no sum is carried.
+    pub fn put_run<N: Number>(self, out: &mut [u8], to: Ended, a: usize, e: usize) -> Ended
+        requires a_le_e { (a ≤ e) × Rising N.WIDTH self.src.now self.first e }
+        requires a_bound { (to.sum + total_of (sizes_of (offset N.WIDTH self.src.now self.first) (count_up (e - a) a)) < 256 ^ N.WIDTH) × (to.next + length (numbers N.WIDTH (ends_from to.sum (sizes_of (offset N.WIDTH self.src.now self.first) (count_up (e - a) a)))) ≤ length out.old) }
+        ensures wrote { Wrote out.old to.next (numbers N.WIDTH (ends_from to.sum (sizes_of (offset N.WIDTH self.entry.src.now self.entry.first) (count_up (e - a) a)))) out.new result.next }
+        ensures sum_value { result.sum ≡ to.sum + total_of (sizes_of (offset N.WIDTH self.entry.src.now self.entry.first) (count_up (e - a) a)) }
+    {
+        let Offsets { src, first } = self;
+        let start = to.sum as u64;
+        let low = N::get(src, first + N::WIDTH * a).wide();
+        let mut here = to.next;
+        for row in a..e {
+            let high = N::get(src, first + N::WIDTH * (row + 1)).wide();
+            here = N::low(high - low + start).put(out, here);
+        }
+        let last = N::get(src, first + N::WIDTH * e).wide();
+        Ended {
+            next: here,
+            sum: to.sum + (last - low) as usize,
+        }
     }
-    Ended {
-        next: here,
-        sum: end,
+
+    // Where each of the rows ends, one by one.
+    pub fn put_each<N: Number, R: Rows>(self, out: &mut [u8], to: Ended, rows: R) -> Ended
+        requires among { Among (Rising N.WIDTH self.src.now self.first) (R.rows rows) }
+        requires rows_bound { (to.sum + total_of (sizes_of (offset N.WIDTH self.src.now self.first) (R.rows rows)) < 256 ^ N.WIDTH) × (to.next + length (numbers N.WIDTH (ends_from to.sum (sizes_of (offset N.WIDTH self.src.now self.first) (R.rows rows)))) ≤ length out.old) }
+        ensures wrote { Wrote out.old to.next (numbers N.WIDTH (ends_from to.sum (sizes_of (offset N.WIDTH self.entry.src.now self.entry.first) (R.rows rows)))) out.new result.next }
+        ensures sum_value { result.sum ≡ to.sum + total_of (sizes_of (offset N.WIDTH self.entry.src.now self.entry.first) (R.rows rows)) }
+    {
+        let Ended { next, sum } = to;
+        let mut here = next;
+        let mut end = sum;
+        for row in rows {
+            end += self.size::<N>(row);
+            here = N::low(end as u64).put(out, here);
+        }
+        Ended {
+            next: here,
+            sum: end,
+        }
     }
 }

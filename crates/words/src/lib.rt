@@ -175,6 +175,7 @@ pub fn read_number(s: &[u8], at: usize, width: usize) -> u64
     requires inside { at + width ≤ length s.now }
     ensures { result ≡ le width s.now at }
 {
+    // What is chosen is a type, so that no closure can stand for it; a `dyn` would be called for each number.
     match width {
         1 => u8::get(s, at).wide(),
         2 => u16::get(s, at).wide(),
@@ -189,6 +190,7 @@ pub fn put_number(out: &mut [u8], at: usize, x: u64, width: usize) -> usize
     requires inside { at + width ≤ length out.old }
     ensures { Wrote out.old at (to_le width x) out.new result }
 {
+    // What is chosen is a type, so that no closure can stand for it; a `dyn` would be called for each number.
     match width {
         1 => u8::low(x).put(out, at),
         2 => u16::low(x).put(out, at),

@@ -8,7 +8,7 @@ use Rattle.bitmaps.proofs.filter_bits_compress.Given as goal
 abbrev pub invariant-loop-w : goal.invariant-loop-w
 invariant-loop-w l = record {
   inside : 64 * l.w ≤ l.len + 63;
-  packs : Packs (taken l.values l.from l.s l.fn.mask (64 * l.w)) l.fn.out l.at l.to;
+  packs : Packs (taken l.values l.from l.source (64 * l.w)) l.fn.out l.at l.to;
   same_reference : l.to.out.ghost_name ≡ l.initial.to.out.ghost_name;
 }
 

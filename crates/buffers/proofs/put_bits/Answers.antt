@@ -1,19 +1,7 @@
 -- `buffers::put_bits` meets its contract: padding, then the buffer. Assumes nothing.
 use mathlib.Core.Path.{refl}
-use native.Mathlib.Omega.{arith}
-use Rattle.format.proofs.Put.{same_size}
-use Rattle.buffers.proofs.PutLaws.{puts-bytes, pad-room, bytes-room}
+use Rattle.buffers.proofs.PutLaws.{puts-bytes}
 use Rattle.buffers.proofs.put_bits.Goals as goal
-
-pub filter_bits-next-requires : goal.filter_bits-next-requires
-filter_bits-next-requires c = let b = c.before.before.before.before.before.before.before.before.before in
-    let w = c.pad-start.ensures in
-    let size = same_size w in
-    let fit = bytes-room b.args.at _ refl b.requires.mask_in_bounds _ w.place in
-    record { sourced = b.requires.sourced; holds = b.requires.holds; len_bound = b.requires.len_bound; len_in_bounds = omega arith }
-
-pub pad-start-requires : goal.pad-start-requires
-pad-start-requires c = pad-room _ _ refl c.requires.mask_in_bounds
 
 pub returns : goal.returns
 returns c = puts-bytes refl c.pad-start.ensures c.filter_bits-next.ensures

@@ -1,41 +1,27 @@
--- `kept_counts::count_below` meets its contract. Assumes nothing.
-use native.Mathlib.Omega.{arith}
-use Rattle.nesting.proofs.Counted.{above-few}
+-- `count_below` meets its contract. Assumes nothing.
+use Rattle.std.proofs.Common.{arith}
+use Rattle.nesting.proofs.Counting.{ready_at, above-lt}
 use Rattle.list_counts.proofs.Chained.{starts-count}
-use Rattle.kept_counts.proofs.Counting.{nodes-at, listed-child}
-use Rattle.stretches.proofs.Telling.{up-inside, up-ready}
-use borrow.Author.Rules.{rules}
+use Rattle.stretches.proofs.Here.{list-after}
 use Rattle.kept_counts.proofs.count_below.Goals as goal
 
-pub levels_above-above-requires : goal.levels_above-above-requires
-levels_above-above-requires c = search rules
+pub count_picked-requires-clause-descends : goal.count_picked-requires-clause-descends
+count_picked-requires-clause-descends c = let k = c.levels_above.ensures _ c.in-Some.is in rw k.here k.down
 
-pub count_chain-requires : goal.count_chain-requires
-count_chain-requires c = record { lies = c.requires.lies; descends = c.levels_above-above.ensures.down c.if-n-gt0.true; sifted = c.requires.ready.rooted }
+pub count_picked-requires-clause-sifted : goal.count_picked-requires-clause-sifted
+count_picked-requires-clause-sifted c = let k = c.levels_above.ensures _ c.in-Some.is in rw k.here c.args.counted.ready.rooted
 
-pub returns-then-n-gt0 : goal.returns-then-n-gt0
-returns-then-n-gt0 c = starts-count (c.levels_above-above.ensures.starts c.if-n-gt0.true) c.requires.ready.rooted c.count_chain.ensures
-
-pub offset_bounds-parents-node : goal.offset_bounds-parents-node
-offset_bounds-parents-node c = search rules
-
-pub bounds-parents-node : goal.bounds-parents-node
-bounds-parents-node c = search rules
-
-pub overflow_cast-p : goal.overflow_cast-p
-overflow_cast-p c = omega (arith, above-few c.requires.ready c.requires.node_nonzero.1 c.requires.node_nonzero.0)
-
-pub plain_width-w-requires : goal.plain_width-w-requires
-plain_width-w-requires c = (nodes-at c.requires.ready c.requires.node_nonzero.1 c.requires.node_nonzero.0, up-inside c.requires.ready c.requires.node_nonzero.1 c.requires.node_nonzero.0)
+pub returns-in-Some : goal.returns-in-Some
+returns-in-Some c = let k = c.levels_above.ensures _ c.in-Some.is in starts-count k.starts c.args.counted.ready.rooted (rw k.here at c.count_picked.ensures)
 
 pub count_listed-requires : goal.count_listed-requires
-count_listed-requires c = record { lies = c.requires.lies; ready = up-ready c.requires.ready c.requires.node_nonzero.1 c.requires.node_nonzero.0; at_list = (c.plain_width-w.ensures.list c.if-w-gt0.true, c.plain_width-w.ensures.bare c.if-w-gt0.true) }
+count_listed-requires c =
+    let k = c.bare_list.ensures _ c.in-Some-bare_list.is in
+    let low = above-lt (ready_at c.args.counted.ready c.requires.known) c.requires.inside.1 c.requires.inside.0 in
+    record { here = k.here; known = omega (arith, low, k.is, c.parent.ensures, c.requires.known); bare = rw k.is k.bare }
 
-pub returns-then-w-gt0 : goal.returns-then-w-gt0
-returns-then-w-gt0 c = listed-child c.requires.ready c.requires.node_nonzero.1 c.requires.node_nonzero.0 (c.plain_width-w.ensures.list c.if-w-gt0.true) c.count_listed.ensures
-
-pub count_rows-requires : goal.count_rows-requires
-count_rows-requires c = search rules
-
-pub returns : goal.returns
-returns c = search rules
+pub returns-in-Some-bare_list : goal.returns-in-Some-bare_list
+returns-in-Some-bare_list c =
+    let k = c.bare_list.ensures _ c.in-Some-bare_list.is in
+    let next = list-after c.args.counted c.in-Some-bare_list.list k.here c.requires.inside.1 c.requires.inside.0 c.parent.ensures k.is in
+    rw next c.count_listed.ensures

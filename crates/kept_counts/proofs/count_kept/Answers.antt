@@ -1,80 +1,43 @@
--- `kept_counts::count_kept` meets its contract. Assumes nothing.
-use native.Mathlib.Omega.{arith}
-use Rattle.nesting.proofs.Counted.{above-few}
-use Rattle.kept_counts.proofs.Counting.{nodes-at, counted-as, handed-at, handed-count, carried_none, carried-all}
-use Rattle.nesting.proofs.Sieve.{len-fits}
-use Rattle.stretches.proofs.Telling.{up-inside}
-use borrow.Author.Rules.{rules}
+-- `count_kept` meets its contract. Assumes nothing.
+use Rattle.std.proofs.Common.{length, refl, sym, ap, ◌∙◌}
+use Rattle.format.specs.Kept.{kept_spans}
+use Rattle.nesting.specs.Rows.{picks_in}
+use Rattle.nesting.proofs.Counting.{ready_at, under-shared, under-empty, under-filled}
+use Rattle.nesting.proofs.ListAt.{child-kept}
+use Rattle.stretches.proofs.Here.{run-next, list-after}
 use Rattle.kept_counts.proofs.count_kept.Goals as goal
 
-pub offset_bounds-parents-node : goal.offset_bounds-parents-node
-offset_bounds-parents-node c = search rules
+pub picked-requires : goal.picked-requires
+picked-requires c = rw (c.in-Runs.ensures.0, c.in-Runs.ensures.1) (record { same = c.at_root.ensures.same c.if-at_root.true })
 
-pub bounds-parents-node : goal.bounds-parents-node
-bounds-parents-node c = search rules
+pub count_spans-requires : goal.count_spans-requires
+count_spans-requires c = rw (c.in-List.ensures.0, c.in-List.ensures.1, c.if-at_root-2.ensures.long refl) c.args.counted.ready.rooted
 
-pub overflow_cast-p : goal.overflow_cast-p
-overflow_cast-p c = omega (arith, above-few c.requires.ready c.requires.node_nonzero.1 c.requires.node_nonzero.0)
+pub returns-in-Rows : goal.returns-in-Rows
+returns-in-Rows c =
+    let ready = ready_at c.args.counted.ready c.requires.known in
+    rw c.parent-p.ensures at c.kept.ensures ∙ under-shared ready c.requires.inside.1 c.requires.inside.0 (rw c.parent-p.ensures at c.in-Rows.ensures)
 
-pub overflow_mul-k : goal.overflow_mul-k
-overflow_mul-k c = omega (arith, above-few c.requires.ready c.requires.node_nonzero.1 c.requires.node_nonzero.0)
+pub returns-in-Runs : goal.returns-in-Runs
+returns-in-Runs c =
+    let next = run-next c.args.counted c.in-Runs.runs c.in-Runs.ensures.0 c.requires.inside.1 c.requires.inside.0 c.parent-p.ensures c.in-Runs.ensures.1 in
+    rw (next, ← c.in-Runs.ensures.0) c.picked.ensures
 
-pub offset_bounds-table-p : goal.offset_bounds-table-p
-offset_bounds-table-p c = omega (arith, above-few c.requires.ready c.requires.node_nonzero.1 c.requires.node_nonzero.0)
+pub returns-in-List : goal.returns-in-List
+returns-in-List c =
+    let next = list-after c.args.counted c.in-List.list c.in-List.ensures.0 c.requires.inside.1 c.requires.inside.0 c.parent-p.ensures c.in-List.ensures.1 in
+    let root = picks_in c.args.counted.source in
+    let above = rw (← c.in-List.ensures.1) at (c.if-at_root-2.ensures.same refl root) in
+    rw next
+    (rw c.in-List.ensures.0 at c.count_spans.ensures
+    ∙ ap length (sym (child-kept (rw c.in-List.ensures.0 at c.in-List.list.at) root ∙ ap (kept_spans c.in-List.list.width c.args.counted.journal.now.bytes.now c.in-List.list.node) above)))
 
-pub bounds-table-p : goal.bounds-table-p
-bounds-table-p c = omega (arith, above-few c.requires.ready c.requires.node_nonzero.1 c.requires.node_nonzero.0)
+pub returns-then-kept-eq0 : goal.returns-then-kept-eq0
+returns-then-kept-eq0 c =
+    let ready = ready_at c.args.counted.ready c.requires.known in
+    under-empty ready c.requires.inside.1 c.requires.inside.0 (rw c.parent-p.ensures at c.in-All.ensures) (rw c.parent-p.ensures at (sym c.kept-in-All.ensures ∙ c.if-kept-eq0.true))
 
-pub offset_bounds-counts-p : goal.offset_bounds-counts-p
-offset_bounds-counts-p c = omega (arith, above-few c.requires.ready c.requires.node_nonzero.1 c.requires.node_nonzero.0)
-
-pub bounds-counts-p : goal.bounds-counts-p
-bounds-counts-p c = omega (arith, above-few c.requires.ready c.requires.node_nonzero.1 c.requires.node_nonzero.0)
-
-pub returns-then-k : goal.returns-then-k
-returns-then-k c = counted-as c.requires.ready c.requires.node_nonzero.1 c.requires.node_nonzero.0 c.if-k.true
-
-pub takes_scratch-requires : goal.takes_scratch-requires
-takes_scratch-requires c = search rules
-
-pub at_root-requires : goal.at_root-requires
-at_root-requires c = (nodes-at c.requires.ready c.requires.node_nonzero.1 c.requires.node_nonzero.0, up-inside c.requires.ready c.requires.node_nonzero.1 c.requires.node_nonzero.0)
-
-pub count_top-requires : goal.count_top-requires
-count_top-requires c = record { lies = c.requires.lies; handed = handed-at c.requires.ready c.requires.node_nonzero.1 c.requires.node_nonzero.0 c.takes_scratch.ensures c.if-takes_scratch.true c.at_root.ensures c.if-at_root.true }
-
-pub returns-then-at_root : goal.returns-then-at_root
-returns-then-at_root c = handed-count c.requires.ready c.requires.node_nonzero.1 c.requires.node_nonzero.0 c.takes_scratch.ensures c.if-takes_scratch.true c.count_top.ensures
-
-pub count_below-requires : goal.count_below-requires
-count_below-requires c = search rules
-
-pub returns-then-takes_scratch : goal.returns-then-takes_scratch
-returns-then-takes_scratch c = search rules
-
-pub offset_bounds-counts-p-2 : goal.offset_bounds-counts-p-2
-offset_bounds-counts-p-2 c = omega (arith, above-few c.requires.ready c.requires.node_nonzero.1 c.requires.node_nonzero.0)
-
-pub bounds-counts-p-2 : goal.bounds-counts-p-2
-bounds-counts-p-2 c = omega (arith, above-few c.requires.ready c.requires.node_nonzero.1 c.requires.node_nonzero.0)
-
-pub returns-then-counts-p-eq0 : goal.returns-then-counts-p-eq0
-returns-then-counts-p-eq0 c = carried_none c.requires.ready c.requires.node_nonzero.1 c.requires.node_nonzero.0 c.takes_scratch.ensures c.if-takes_scratch.false c.if-k.false c.if-counts-p-eq0.true
-
-pub overflow_mul-result : goal.overflow_mul-result
-overflow_mul-result c = search rules
-
-pub overflow_add-result : goal.overflow_add-result
-overflow_add-result c = search rules
-
-pub offset_bounds-table-node : goal.offset_bounds-table-node
-offset_bounds-table-node c = search rules
-
-pub bounds-table-node : goal.bounds-table-node
-bounds-table-node c = search rules
-
-pub overflow_cast-result : goal.overflow_cast-result
-overflow_cast-result c = omega (arith, len-fits c.requires.ready c.requires.node_nonzero.1)
-
-pub returns : goal.returns
-returns c = carried-all c.requires.ready c.requires.node_nonzero.1 c.requires.node_nonzero.0 c.takes_scratch.ensures c.if-takes_scratch.false c.if-k.false c.if-counts-p-eq0.false
+pub returns-else-kept-eq0 : goal.returns-else-kept-eq0
+returns-else-kept-eq0 c =
+    let ready = ready_at c.args.counted.ready c.requires.known in
+    c.rows.ensures ∙ under-filled ready c.requires.inside.1 c.requires.inside.0 (rw c.parent-p.ensures at c.in-All.ensures) (λ e. c.if-kept-eq0.false (rw c.parent-p.ensures at c.kept-in-All.ensures ∙ e))

@@ -1,17 +1,18 @@
--- What the loops of `count_listed` keep, and their measures. Assumes nothing.
-use mathlib.Core.Path.{◌≡◌}
-use Prim.Native.Nat.{◌≤◌, ◌-◌}
-use mathlib.Core.List.{map}
-use lib.ListN.{length}
-use Rattle.format.specs.Bytes.{chosen, join}
+-- What the loop of `count_listed` keeps: the child rows counted, and those of the runs that are left, are those of the kept rows. Assumes nothing.
+use Rattle.std.proofs.Common.{◌≡◌, ◌+◌}
 use Rattle.format.specs.Node.{rows, first_number}
-use Rattle.format.specs.Kept.{span}
-use Rattle.nesting.specs.Rows.{keeps, picks_of}
-use Rattle.stretches.specs.Stretches.{Seen}
+use Rattle.format.specs.Slots.{covered}
+use Rattle.format.specs.Kept.{kept_rows}
+use Rattle.nesting.specs.Rows.{picks_in}
+use Rattle.spans.specs.Spans.{spans}
+use Rattle.stretches.specs.Stretches.{bytes_in}
+use Rattle.stretches.specs.Kept.{runs_left}
+use Rattle.stretches.proofs.Ranges.{Among}
 use Rattle.kept_counts.proofs.count_listed.Given as goal
 
-abbrev pub invariant-loop-r : goal.invariant-loop-r
-invariant-loop-r l = (l.len ≡ rows l.journal l.p) × (l.r ≤ l.len) × (l.n ≤ first_number l.w l.journal l.p l.r) × (l.n ≡ length (join (map (span l.w l.journal l.p) (chosen (keeps l.journal (picks_of l.mask l.bits) l.p) l.r)))) × Seen l.journal (picks_of l.mask l.bits) l.seen
-
-abbrev pub decreases-loop-r : goal.decreases-loop-r
-decreases-loop-r l = l.len - l.r
+abbrev pub invariant-loop-from : goal.invariant-loop-from
+invariant-loop-from l =
+    let b = bytes_in l.counted in
+    let left = runs_left l.from-iterator in
+    let starts = first_number l.list.width b l.list.node in
+    Among (rows b l.list.node) left × (l.n + spans starts (covered left) ≡ spans starts (kept_rows b (picks_in l.counted.source) l.list.node))

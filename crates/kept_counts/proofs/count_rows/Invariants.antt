@@ -1,15 +1,16 @@
--- What the loops of `count_rows` keep, and their measures. Assumes nothing.
-use Prim.Native.Nat.{◌≤◌, ◌-◌}
-use mathlib.Core.Path.{◌≡◌}
-use lib.ListN.{length}
-use Rattle.format.specs.Bytes.{chosen}
+-- What the loop of `count_rows` keeps: the rows counted, and those of the runs that are left, are the kept rows. Assumes nothing.
+use Rattle.std.proofs.Common.{◌≡◌, ◌+◌, length}
 use Rattle.format.specs.Node.{rows}
-use Rattle.nesting.specs.Rows.{keeps, picks_of}
-use Rattle.stretches.specs.Stretches.{Seen}
+use Rattle.format.specs.Slots.{covered}
+use Rattle.format.specs.Kept.{kept_rows}
+use Rattle.nesting.specs.Rows.{picks_in}
+use Rattle.stretches.specs.Stretches.{bytes_in}
+use Rattle.stretches.specs.Kept.{runs_left}
+use Rattle.stretches.proofs.Ranges.{Among}
 use Rattle.kept_counts.proofs.count_rows.Given as goal
 
-abbrev pub invariant-loop-r : goal.invariant-loop-r
-invariant-loop-r l = (l.len ≡ rows l.journal l.node) × (l.r ≤ l.len) × (l.n ≤ l.r) × (l.n ≡ length (chosen (keeps l.journal (picks_of l.mask l.bits) l.node) l.r)) × Seen l.journal (picks_of l.mask l.bits) l.seen
-
-abbrev pub decreases-loop-r : goal.decreases-loop-r
-decreases-loop-r l = l.len - l.r
+abbrev pub invariant-loop-from : goal.invariant-loop-from
+invariant-loop-from l =
+    let b = bytes_in l.counted in
+    let left = runs_left l.from-iterator in
+    Among (rows b l.node) left × (l.n + length (covered left) ≡ length (kept_rows b (picks_in l.counted.source) l.node))

@@ -1,19 +1,16 @@
 -- `measure::runs_kept` meets its contract. Assumes nothing.
-use borrow.Author.Tests.{eq-eqb, ne_eqb}
-use borrow.Author.Rules.{rules}
+use mathlib.Core.Path.{sym, ◌∙◌}
+use native.Mathlib.Omega.{arith}
+use Rattle.measure.proofs.NodeEnd.{run-child, kept-few}
 use Rattle.measure.proofs.runs_kept.Goals as goal
 
-pub overflow_add-result : goal.overflow_add-result
-overflow_add-result c = search rules
+pub kept-requires : goal.kept-requires
+kept-requires c =
+    let q = c.requires.known in
+    let h = run-child c.args.counted.ready q.0 (sym c.requires.of_value ∙ c.in-Runs.is) in
+    (omega (arith, h, q.1), h)
 
-pub offset_bounds-counts-i : goal.offset_bounds-counts-i
-offset_bounds-counts-i c = search rules
-
-pub bounds-counts-i : goal.bounds-counts-i
-bounds-counts-i c = c.requires.1 c.if-kind-eq-RUNS.true
-
-pub returns-then-kind-eq-RUNS : goal.returns-then-kind-eq-RUNS
-returns-then-kind-eq-RUNS c = rw (eq-eqb _ 9 c.if-kind-eq-RUNS.true)
-
-pub returns : goal.returns
-returns c = rw (ne_eqb _ 9 c.if-kind-eq-RUNS.false)
+pub returns-in-Runs-clause-few : goal.returns-in-Runs-clause-few
+returns-in-Runs-clause-few c =
+    let h = run-child c.args.counted.ready c.requires.known.0 (sym c.requires.of_value ∙ c.in-Runs.is) in
+    omega (arith, c.kept.ensures, kept-few c.args.counted.ready h)

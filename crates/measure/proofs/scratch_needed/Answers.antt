@@ -1,61 +1,42 @@
 -- `measure::scratch_needed` meets its contract. The loop's invariant: `need` is what the first i nodes take. Assumes nothing.
+use mathlib.Core.Path.{sym, ap, ◌∙◌}
+use Prim.Native.Nat.{◌<◌}
 use native.Mathlib.Omega.{arith}
-use Rattle.nesting.proofs.Scratch.{scratch-none, scratch-all, scratch-more, scratch-same, child-inside, child-few, bytes-few}
+use Rattle.format.specs.Bytes.{bytes_for}
+use Rattle.format.specs.Node.{node_count}
+use Rattle.nesting.proofs.Scratch.{scratch-none, scratch-all, scratch-more, scratch-same, child-inside, child-few}
 use Rattle.measure.proofs.scratch_needed.Goals as goal
 
-pub node_count-n-requires : goal.node_count-n-requires
-node_count-n-requires c = c.requires.0.shape
-
 pub loop-i-init : goal.loop-i-init
-loop-i-init c = (omega arith, omega arith, scratch-none _)
+loop-i-init c = (omega arith, scratch-none _)
 
-pub overflow_add-i : goal.overflow_add-i
-overflow_add-i c = omega (arith, c.requires.0.shape.few)
+pub loop-i-preserved-then-not-takes_scratch : goal.loop-i-preserved-then-not-takes_scratch
+loop-i-preserved-then-not-takes_scratch c =
+    let h : c.loop-i.i < node_count c.args.journal.now.bytes.now = omega (arith, c.node_count-i-end.ensures, c.loop-i-test.true) in
+    (omega arith, scratch-same c.args.journal.now.sound h (sym c.takes_scratch.ensures ∙ c.if-not-takes_scratch.true) _ c.loop-i.invariant.1)
 
-pub overflow_mul-node : goal.overflow_mul-node
-overflow_mul-node c = omega (arith, c.requires.0.shape.few)
-
-pub offset_bounds-table-node : goal.offset_bounds-table-node
-offset_bounds-table-node c = omega (arith, c.requires.0.shape.few)
-
-pub bounds-table-node : goal.bounds-table-node
-bounds-table-node c = omega (arith, c.requires.0.shape.few)
-
-pub takes_scratch-requires : goal.takes_scratch-requires
-takes_scratch-requires c = tt
-
-pub overflow_mul-i : goal.overflow_mul-i
-overflow_mul-i c = omega (arith, child-inside c.requires.0 c.requires.1 (omega arith) c.takes_scratch.ensures c.if-takes_scratch.true, c.requires.0.shape.few)
-
-pub overflow_add-i-then-takes_scratch : goal.overflow_add-i-then-takes_scratch
-overflow_add-i-then-takes_scratch c = omega (arith, child-inside c.requires.0 c.requires.1 (omega arith) c.takes_scratch.ensures c.if-takes_scratch.true, c.requires.0.shape.few)
-
-pub offset_bounds-table-i : goal.offset_bounds-table-i
-offset_bounds-table-i c = omega (arith, child-inside c.requires.0 c.requires.1 (omega arith) c.takes_scratch.ensures c.if-takes_scratch.true, c.requires.0.shape.few)
-
-pub bounds-table-i : goal.bounds-table-i
-bounds-table-i c = omega (arith, child-inside c.requires.0 c.requires.1 (omega arith) c.takes_scratch.ensures c.if-takes_scratch.true, c.requires.0.shape.few)
-
-pub overflow_cast-table : goal.overflow_cast-table
-overflow_cast-table c = omega (arith, child-few c.requires.0 c.requires.1 (omega arith) c.takes_scratch.ensures c.if-takes_scratch.true)
+pub rows-requires : goal.rows-requires
+rows-requires c =
+    let h : c.loop-i.i < node_count c.args.journal.now.bytes.now = omega (arith, c.node_count-i-end.ensures, c.loop-i-test.true) in
+    child-inside c.args.journal.now.sound h (sym c.takes_scratch.ensures ∙ c.if-not-takes_scratch.false)
 
 pub bytes_for-need-requires : goal.bytes_for-need-requires
-bytes_for-need-requires c = omega (arith, child-few c.requires.0 c.requires.1 (omega arith) c.takes_scratch.ensures c.if-takes_scratch.true)
+bytes_for-need-requires c =
+    let h : c.loop-i.i < node_count c.args.journal.now.bytes.now = omega (arith, c.node_count-i-end.ensures, c.loop-i-test.true) in
+    omega (arith, c.rows.ensures, child-few c.args.journal.now.sound h (sym c.takes_scratch.ensures ∙ c.if-not-takes_scratch.false))
 
 pub overflow_add-need : goal.overflow_add-need
-overflow_add-need c = omega (arith, bytes-few _ (child-few c.requires.0 c.requires.1 (omega arith) c.takes_scratch.ensures c.if-takes_scratch.true), c.bytes_for-need.ensures, c.requires.0.shape.few)
-
-pub loop-i-smaller-then-takes_scratch : goal.loop-i-smaller-then-takes_scratch
-loop-i-smaller-then-takes_scratch c = omega arith
-
-pub loop-i-preserved-then-takes_scratch : goal.loop-i-preserved-then-takes_scratch
-loop-i-preserved-then-takes_scratch c = (omega arith, omega (arith, bytes-few _ (child-few c.requires.0 c.requires.1 (omega arith) c.takes_scratch.ensures c.if-takes_scratch.true), c.bytes_for-need.ensures), scratch-more c.requires.0 c.requires.1 (omega arith) c.takes_scratch.ensures c.if-takes_scratch.true _ _ c.loop-i.invariant.2 c.bytes_for-need.ensures)
-
-pub loop-i-smaller : goal.loop-i-smaller
-loop-i-smaller c = omega arith
+overflow_add-need c =
+    let s = c.args.journal.now.sound in
+    let h : c.loop-i.i < node_count c.args.journal.now.bytes.now = omega (arith, c.node_count-i-end.ensures, c.loop-i-test.true) in
+    omega (arith, c.bytes_for-need.ensures.1, c.rows.ensures, child-few s h (sym c.takes_scratch.ensures ∙ c.if-not-takes_scratch.false), s.shape.few)
 
 pub loop-i-preserved : goal.loop-i-preserved
-loop-i-preserved c = (omega arith, omega arith, scratch-same c.requires.0 c.requires.1 (omega arith) c.takes_scratch.ensures c.if-takes_scratch.false _ c.loop-i.invariant.2)
+loop-i-preserved c =
+    let s = c.args.journal.now.sound in
+    let h : c.loop-i.i < node_count c.args.journal.now.bytes.now = omega (arith, c.node_count-i-end.ensures, c.loop-i-test.true) in
+    let t = sym c.takes_scratch.ensures ∙ c.if-not-takes_scratch.false in
+    (omega (arith, c.bytes_for-need.ensures.1, c.rows.ensures, child-few s h t), scratch-more s h t _ _ c.loop-i.invariant.1 (c.bytes_for-need.ensures.0 ∙ ap bytes_for c.rows.ensures))
 
 pub returns : goal.returns
-returns c = scratch-all _ _ _ c.loop-i.invariant.2 (omega arith)
+returns c = scratch-all _ _ _ c.loop-i.invariant.1 (omega (arith, c.node_count-i-end.ensures, c.loop-i.auto.i-end, c.loop-i-test.false))

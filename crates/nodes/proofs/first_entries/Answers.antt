@@ -1,22 +1,18 @@
 -- `nodes::first_entries` meets its contract: the entries from row 0 on. Assumes nothing.
-use Rattle.predicate.proofs.Holding.{sourced-readable}
-use Rattle.buffers.specs.Place.{rows_by}
-use Rattle.nodes.proofs.BufferLaws.{first-copies, width-copies, narrow, entries-lie, place_is}
+use Rattle.nodes.proofs.BufferLaws.{b, i, rs, first-copies, width-copies, narrow, entries-lie, place_is}
 use Rattle.nodes.proofs.first_entries.Goals as goal
 
+pub row_zero-requires : goal.row_zero-requires
+row_zero-requires c = width-copies c.requires.copies (narrow c.args.picked)
+
 pub put_entries-requires : goal.put_entries-requires
-put_entries-requires c = let b = c.before.before.before.before.before.before in
-    let a = b.args in
-    let p = b.requires.picked in
-    let e = place_is p a.width _ c.row_zero-place.ensures in
-    record { readable = sourced-readable a.sel a.s.now a.mask p.sourced; holds = p.holds; entries = rw e (entries-lie p b.requires.copies); mask_in_bounds = rw (e, ← first-copies a.journal.now a.i (rows_by a.sel a.s.now a.mask) b.requires.copies) b.requires.mask_in_bounds }
+put_entries-requires c =
+    let p = c.args.picked in
+    let e = place_is (b p) (i p) c.node-node.ensures c.args.width _ c.row_zero.ensures in
+    record { entries = rw e (entries-lie p c.requires.copies); room = rw (e, ← first-copies (b p) (i p) (rs p) c.requires.copies) c.requires.room }
 
 pub returns : goal.returns
 returns c =
-    let b = c.before.before.before.before.before.before.before.before.before in
-    let a = b.args in
-    let e = place_is b.requires.picked a.width _ c.row_zero-place.ensures in
-    rw (first-copies a.journal.now a.i (rows_by a.sel a.s.now a.mask) b.requires.copies, ← e) c.put_entries.ensures
-
-pub row_zero-place-requires : goal.row_zero-place-requires
-row_zero-place-requires c = width-copies c.requires.copies (narrow c.requires.picked)
+    let p = c.args.picked in
+    let e = place_is (b p) (i p) c.node-node.ensures c.args.width _ c.row_zero.ensures in
+    rw (first-copies (b p) (i p) (rs p) c.requires.copies, ← e) c.put_entries.ensures

@@ -1,18 +1,22 @@
 -- `nodes::first_runs` meets its contract: the run ends lie in the journal and rise. Assumes nothing.
-use Rattle.buffers.specs.Place.{rows_by}
-use Rattle.nodes.proofs.BufferLaws.{first-runs-by, runs-lie-by}
+use mathlib.Core.Path.{◌≡◌}
+use native.Mathlib.Numerals.{add-one}
+use Rattle.format.specs.Node.{rows, child}
+use Rattle.nodes.proofs.BufferLaws.{b, i, child-inside, runs-lie, first-runs-are}
 use Rattle.nodes.proofs.first_runs.Goals as goal
+use Rattle.nodes.proofs.first_runs.Goals.{After-rows}
+
+pub rows-requires : goal.rows-requires
+rows-requires c = rw add-one (child-inside c.args.picked c.requires.kind_value)
+
+many : (c : After-rows) → c.rows.result ≡ rows (b c.args.picked) (child (i c.args.picked))
+many c = rw add-one at c.rows.ensures
+
+pub invariant_of-runs : goal.invariant_of-runs
+invariant_of-runs c = record { lie = runs-lie c.args.picked c.requires.kind_value c.node-node.ensures (many (goal.at.invariant_of-runs c).After-rows) }
 
 pub put_run_ends-requires : goal.put_run_ends-requires
-put_run_ends-requires c = let b = c.before.before.before.before.before.before.before.before in
-    let a = b.args in
-    let p = b.requires.picked in
-    let k = b.requires.i_value in
-    record { ends_lie = runs-lie-by p k.0 a.n k.1; sourced = p.sourced; n_in_bounds = rw (← first-runs-by p k.0 (rows_by a.sel a.s.now a.mask) a.n k.1) b.requires.mask_in_bounds }
+put_run_ends-requires c = rw (← first-runs-are c.args.picked c.requires.kind_value c.node-node.ensures (many (goal.at.put_run_ends-requires c).After-rows)) c.requires.room
 
 pub returns : goal.returns
-returns c =
-    let b = c.before.before.before.before.before.before.before.before.before.before.before in
-    let a = b.args in
-    let k = b.requires.i_value in
-    rw (first-runs-by b.requires.picked k.0 (rows_by a.sel a.s.now a.mask) a.n k.1) c.put_run_ends.ensures
+returns c = rw (first-runs-are c.args.picked c.requires.kind_value c.node-node.ensures (many (goal.at.returns c).After-rows)) c.put_run_ends.ensures

@@ -45,7 +45,7 @@ pub returns-then-len-w-2 : goal.returns-then-len-w-2
 returns-then-len-w-2 c =
     let k = c.before.before.before in
     let high = (blank (goal.at.returns-then-len-w-2 c).Joined-w-eq0).high in
-    worded-on (reached (goal.at.returns-then-len-w-2 c).Joined-w-eq0) (omega arith) (over (goal.at.returns-then-len-w-2 c).Joined-w-eq0).gap c.last_block-then-len-w-2.result c.last_block-then-len-w-2.ensures
+    worded-on (reached (goal.at.returns-then-len-w-2 c).Joined-w-eq0) (omega arith) (over (goal.at.returns-then-len-w-2 c).Joined-w-eq0).gap _ c.last_block-then-len-w-2.ensures
 
 -- the word has some row
 found : (c : After-loop-x) →

@@ -1,14 +1,12 @@
--- `runs::filter_run_ends` meets its contract: where bits say which rows are kept, `kept_by` computes to their slots. Assumes nothing.
+-- `runs::filter_run_ends` meets its contract: no run ends where no row is kept; and of all rows a range keeps as many as it has. Assumes nothing.
+use Rattle.std.proofs.Common.{rules, ◌≡◌, ◌-◌, refl, sym, ◌∙◌}
+use Rattle.format.proofs.Put.{none}
+use Rattle.runs.proofs.CountLaws.{count-all}
+use Rattle.runs.proofs.EndLaws.{no-ends}
 use Rattle.runs.proofs.filter_run_ends.Goals as goal
 
-pub ends_picked-requires : goal.ends_picked-requires
-ends_picked-requires c = let given = rw c.in-Runs.is at c.requires in record { ends_lie = given.ends_lie; lies = given.sourced; n_in_bounds = given.n_in_bounds }
+pub returns-in-Nothing : goal.returns-in-Nothing
+returns-in-Nothing c = rw c.in-Nothing.is (none (no-ends c.args.runs) refl)
 
-pub ends_picked-requires-in-Rows : goal.ends_picked-requires-in-Rows
-ends_picked-requires-in-Rows c = let given = rw c.in-Rows.is at c.requires in record { ends_lie = given.ends_lie; lies = given.sourced; n_in_bounds = given.n_in_bounds }
-
-pub returns-in-Runs : goal.returns-in-Runs
-returns-in-Runs c = rw c.in-Runs.is c.ends_picked.ensures
-
-pub returns-in-Rows : goal.returns-in-Rows
-returns-in-Rows c = rw c.in-Rows.is c.ends_picked-in-Rows.ensures
+pub ends_by-requires-clause-counts : goal.ends_by-requires-clause-counts
+ends_by-requires-clause-counts c = λ lo hi n l h e. let d : n ≡ hi - lo = search rules in rw c.in-Everything.is (d ∙ sym (count-all _ _))

@@ -1,5 +1,5 @@
 -- `scan::any_picked` meets its contract: no slot is picked from the last on, so the search ends there or at hi. Assumes nothing.
-use Rattle.std.proofs.Common.{◌≤◌, false, ◌∙◌, arith}
+use Rattle.std.proofs.Common.{false, ◌∙◌, arith}
 use Rattle.format.specs.Slots.{All}
 use Rattle.slots.specs.Slot.{slot_in}
 use Rattle.slots.proofs.Reading.{slot-past}

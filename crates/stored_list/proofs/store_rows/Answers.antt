@@ -1,10 +1,10 @@
 -- `stored_list::store_rows` meets its contract: the rows of word w are the next to store. Assumes nothing.
-use Rattle.std.proofs.Common.{◌≡◌, ◌+◌, ◌*◌, ◌++◌, ◌<◌, refl, ◌∙◌, arith}
+use Rattle.std.proofs.Common.{◌≡◌, ◌+◌, ◌*◌, ◌++◌, refl, arith}
 use Rattle.format.specs.Rows.{set_rows}
-use Rattle.format.proofs.Put.{whole, less, room, done, kept}
+use Rattle.format.proofs.Put.{whole, less, room, done}
 use Rattle.slots.specs.Slot.{slot_in}
 use Rattle.slots.proofs.Reading.{slot-past}
-use Rattle.predicate.specs.Selection.{picks_on}
+use Rattle.predicate.specs.Blocks.{picks_on}
 use Rattle.predicate.proofs.Picks.{picks_start, picks-whole, picks-over, word_below}
 use Rattle.stored_list.proofs.store_rows.Goals as goal
 use Rattle.stored_list.proofs.store_rows.Goals.{After-word_in, After-word}

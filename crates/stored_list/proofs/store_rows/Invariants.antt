@@ -3,7 +3,7 @@ use Rattle.std.proofs.Common.{◌*◌}
 use Rattle.format.specs.Slots.{picks_from}
 use Rattle.format.proofs.Put.{Left}
 use Rattle.slots.specs.Slot.{slot_in}
-use Rattle.predicate.specs.Selection.{picks_on}
+use Rattle.predicate.specs.Blocks.{picks_on}
 use Rattle.stored_list.proofs.store_rows.Given as goal
 
 abbrev pub invariant-loop-w : goal.invariant-loop-w

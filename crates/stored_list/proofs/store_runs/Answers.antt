@@ -3,7 +3,6 @@ use Rattle.std.proofs.Common.{◌≡◌, ◌<◌, ◌≤◌, ◌+◌, ◌^◌, [
 use native.Mathlib.Nat.{sub-zero}
 use Rattle.format.specs.Slots.{starts_and_ends}
 use Rattle.format.proofs.Put.{whole, stored, room, done, kept}
-use Rattle.slices.specs.declared.SlicesIterator.{SlicesIterator}
 use Rattle.slices.specs.Reader.{runs_left}
 use Rattle.slices.proofs.Yields.{gives-first, left-some, left-none}
 use Rattle.stored_list.proofs.store_runs.Goals as goal

@@ -1,56 +1,28 @@
--- `stretch_marks::fill_kept` meets its contract. Assumes nothing.
-use Prim.Native.Nat.{◌+◌, ◌-◌, ◌*◌, ◌/◌}
-use native.Mathlib.Omega.{arith}
-use borrow.Author.Rules.{rules}
-use borrow.Rule.Slice.PartMut.{mid_len}
-use lib.ListN.{get_or}
-use Rattle.format.specs.Bytes.{bytes_for, packed}
-use Rattle.format.specs.Node.{rows}
-use Rattle.format.specs.Slots.{slots_from}
-use Rattle.nesting.specs.Rows.{keeps, picks_of}
-use Rattle.nesting.proofs.Sieve.{node-few, len_is, len-fits}
-use Rattle.marks.proofs.Stored.{length-rows, part-wrote}
+-- `fill_kept` meets its contract: marks over zeros. Assumes nothing.
+use Rattle.std.proofs.Common.{length, refl, arith}
+use Rattle.format.specs.Bytes.{bytes_for}
+use Rattle.marks.proofs.Stored.{filled-wrote}
+use Rattle.stretches.specs.Stretches.{kept_in}
+use Rattle.stretches.proofs.Ranges.{among-first, among_rest, among-left}
+use Rattle.stretch_marks.proofs.RunMarks.{all-left, run-marked, all-marked, region-kept}
 use Rattle.stretch_marks.proofs.fill_kept.Goals as goal
 
-pub overflow_mul-len : goal.overflow_mul-len
-overflow_mul-len c = omega (arith, node-few c.requires.ready c.requires.node_bound.0)
+pub loop-from-init : goal.loop-from-init
+loop-from-init c =
+    let b = c.new-from-items.ensures in
+    rw c.into_iter-from-iterator.ensures.into_iter_gives (among-left b, all-left c.args.counted c.args.node c.requires.inside b)
 
-pub overflow_add-len : goal.overflow_add-len
-overflow_add-len c = omega (arith, node-few c.requires.ready c.requires.node_bound.0)
-
-pub offset_bounds-table-node : goal.offset_bounds-table-node
-offset_bounds-table-node c = omega (arith, node-few c.requires.ready c.requires.node_bound.0)
-
-pub bounds-table-node : goal.bounds-table-node
-bounds-table-node c = omega (arith, node-few c.requires.ready c.requires.node_bound.0)
-
-pub overflow_cast-len : goal.overflow_cast-len
-overflow_cast-len c = omega (arith, len-fits c.requires.ready c.requires.node_bound.0)
-
-pub overflow_add-next : goal.overflow_add-next
-overflow_add-next c = omega (arith, len-fits c.requires.ready c.requires.node_bound.0)
-
-pub overflow_add-next-2 : goal.overflow_add-next-2
+pub set_ones-requires : goal.set_ones-requires
 unfolding bytes_for
-overflow_add-next-2 c = omega (arith, len_is c.requires.ready c.requires.node_bound.0, c.requires.node_bound.1)
+set_ones-requires c =
+    let (some, high) = among-first c.in-Some.ensures.steps c.loop-from.invariant.0 in
+    (omega arith, omega (arith, c.requires.size, c.loop-from.auto.region, c.fill.ensures.len))
 
-pub slice_bounds-mark_kept-count : goal.slice_bounds-mark_kept-count
-slice_bounds-mark_kept-count c = search rules
-
-pub slice_bounds-mark_kept-start : goal.slice_bounds-mark_kept-start
-slice_bounds-mark_kept-start c = search rules
-
-pub slice_bounds-mark_kept-end : goal.slice_bounds-mark_kept-end
-unfolding bytes_for
-slice_bounds-mark_kept-end c = omega (arith, len_is c.requires.ready c.requires.node_bound.0, c.requires.node_bound.1)
-
-pub mark_kept-requires : goal.mark_kept-requires
-unfolding bytes_for
-mark_kept-requires c = record { lies = c.requires.lies; ready = c.requires.ready; node_bound = (c.requires.node_bound.0, omega (arith, mid_len c.args.at (c.args.at + (get_or c.args.table.now (10 * c.args.node + 2) 0 + 7) / 8) c.args.scratch.now (omega (arith, len_is c.requires.ready c.requires.node_bound.0, c.requires.node_bound.1)), len_is c.requires.ready c.requires.node_bound.0)) }
-
-pub shape_of-scratch : goal.shape_of-scratch
-shape_of-scratch c = search rules
+pub loop-from-preserved : goal.loop-from-preserved
+loop-from-preserved c =
+    let i = c.loop-from.invariant in
+    (among_rest c.in-Some.ensures.steps i.0, run-marked i.0 c.in-Some.ensures.steps i.1 c.set_ones.ensures)
 
 pub returns : goal.returns
-unfolding bytes_for
-returns c = part-wrote {bs = packed (slots_from (keeps c.args.journal.now (picks_of c.args.mask.now c.args.bits) c.args.node) (rows c.args.journal.now c.args.node) 0)} c.args.at ((c.args.at + (get_or c.args.table.now (10 * c.args.node + 2) 0 + 7) / 8) - c.args.at) c.mark_kept.ensures (omega (arith, length-rows (keeps c.args.journal.now (picks_of c.args.mask.now c.args.bits) c.args.node) (rows c.args.journal.now c.args.node), len_is c.requires.ready c.requires.node_bound.0)) (omega (arith, len_is c.requires.ready c.requires.node_bound.0, c.requires.node_bound.1)) (omega arith)
+returns c =
+    region-kept (kept_in c.args.counted c.args.node) _ (length c.args.region.now) refl c.requires.size (filled-wrote 0 (c.fill.ensures.after (λ y same. same))) (all-marked c.in-None.ensures.steps.0 c.loop-from.invariant.1)

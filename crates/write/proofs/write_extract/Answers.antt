@@ -4,50 +4,46 @@ use native.Mathlib.Omega.{arith}
 use lib.ListN.{length-take}
 use lib.Seq.{length-take-le}
 use Rattle.format.proofs.Measure.{length-numbers}
-use Rattle.measure.proofs.NodeEnd.{count-few}
+use Rattle.measure.proofs.NodeEnd.{kept-few}
 use Rattle.write.proofs.WholeLaws.{pad-fits, start_fits, table_fits, trailer-fits, whole}
 use Rattle.write.proofs.write_extract.Goals as goal
 
-pub node_count-n-requires : goal.node_count-n-requires
-node_count-n-requires c = c.requires.given.ready.sound.shape
-
 pub filter_nodes-end-requires : goal.filter_nodes-end-requires
-filter_nodes-end-requires c = let b = c.before.before.before.before.before.before.before.before in
-    record { given = b.requires.given; fields_len = (refl, b.requires.out_len_bound.0, omega (arith, b.requires.out_len_bound.1)) }
+filter_nodes-end-requires c = (refl, c.requires.0, omega (arith, c.requires.1))
 
 pub pad-start-requires : goal.pad-start-requires
-pad-start-requires c = pad-fits c.filter_nodes-end.ensures c.requires.out_len_bound.1
-
-pub overflow_mul-fields : goal.overflow_mul-fields
-overflow_mul-fields c = omega (arith, c.node_count-n.ensures, c.requires.given.ready.sound.shape.few)
+pad-start-requires c = pad-fits c.filter_nodes-end.ensures c.requires.1
 
 pub slice_bounds-fields-end : goal.slice_bounds-fields-end
-slice_bounds-fields-end c = omega (arith, c.filter_nodes-end.ensures.size, c.node_count-n.ensures, c.requires.given.ready.sound.shape.few)
+slice_bounds-fields-end c = omega (arith, c.filter_nodes-end.ensures.size, c.node_count-n.ensures, c.args.regions.now.counted.ready.sound.shape.few)
 
 pub slice_bounds-put_fields-end : goal.slice_bounds-put_fields-end
-slice_bounds-put_fields-end c = sym (length-take-le _ _ (omega (arith, c.filter_nodes-end.ensures.size, c.node_count-n.ensures, c.requires.given.ready.sound.shape.few)))
+slice_bounds-put_fields-end c = sym (length-take-le _ _ (omega (arith, c.filter_nodes-end.ensures.size, c.node_count-n.ensures, c.args.regions.now.counted.ready.sound.shape.few)))
 
 pub put_fields-after-requires : goal.put_fields-after-requires
 put_fields-after-requires c =
-    let fits = table_fits c.filter_nodes-end.ensures c.requires.out_len_bound.1 c.pad-start.ensures in
+    let fits = table_fits c.filter_nodes-end.ensures c.requires.1 c.pad-start.ensures in
     simp (length-numbers, length-take) (omega (arith, fits, c.node_count-n.ensures))
 
+pub kept-requires : goal.kept-requires
+kept-requires c =
+    let s = c.args.regions.now.counted.ready.sound.shape.some in
+    (omega (arith, s, c.args.regions.now.known), s)
+
 pub overflow_cast-start : goal.overflow_cast-start
-overflow_cast-start c = omega (arith, start_fits c.filter_nodes-end.ensures c.requires.out_len_bound.1 c.pad-start.ensures, c.requires.out_len_bound.0)
+overflow_cast-start c = omega (arith, start_fits c.filter_nodes-end.ensures c.requires.1 c.pad-start.ensures, c.requires.0)
 
 pub overflow_cast-n : goal.overflow_cast-n
-overflow_cast-n c = omega (arith, c.node_count-n.ensures, c.requires.given.ready.sound.shape.few)
+overflow_cast-n c = omega (arith, c.node_count-n.ensures, c.args.regions.now.counted.ready.sound.shape.few)
 
-pub overflow_cast-counts : goal.overflow_cast-counts
-overflow_cast-counts c = omega (arith, count-few c.requires.given.ready c.requires.given.ready.sound.shape.some)
+pub overflow_cast-kept : goal.overflow_cast-kept
+overflow_cast-kept c = let r = c.args.regions.now.counted.ready in omega (arith, c.kept.ensures, kept-few r r.sound.shape.some)
 
 pub put_trailer-requires : goal.put_trailer-requires
-put_trailer-requires c = trailer-fits c.filter_nodes-end.ensures c.requires.out_len_bound.1 c.pad-start.ensures c.put_fields-after.ensures (simp (length-numbers, length-take) (omega (arith, c.node_count-n.ensures)))
+put_trailer-requires c = trailer-fits c.filter_nodes-end.ensures c.requires.1 c.pad-start.ensures c.put_fields-after.ensures (simp (length-numbers, length-take) (omega (arith, c.node_count-n.ensures)))
 
 pub returns : goal.returns
 returns c =
-    let b = c.before.before.before.before.before.before.before.before.before.before.before.before.before.before.before.before.before.before.before.before.before.before.before.before.before.before in
-    let some = b.requires.given.ready.sound.shape.some in
     let count = c.node_count-n.ensures in
-    whole c.filter_nodes-end.ensures b.requires.out_len_bound.1 c.pad-start.ensures some count (b.requires.given.ready.counted.at 0 some)
+    whole c.filter_nodes-end.ensures c.requires.1 c.pad-start.ensures c.args.regions.now.counted.ready.sound.shape.some count c.kept.ensures
     c.put_fields-after.ensures (rw count) c.put_trailer.ensures

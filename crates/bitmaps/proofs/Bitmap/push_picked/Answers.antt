@@ -1,5 +1,5 @@
 -- `bitmaps::Bitmap::push_picked` meets its contract: a run, or one push. Assumes nothing.
-use Prim.Native.Nat.{◌+◌, ◌-◌}
+use Prim.Native.Nat.{◌-◌}
 use mathlib.Core.Path.{◌≡◌}
 use native.Mathlib.Omega.{arith}
 use lib.Count.{ones-le}

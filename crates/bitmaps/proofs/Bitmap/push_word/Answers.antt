@@ -1,5 +1,5 @@
 -- `bitmaps::Bitmap::push_word` meets its contract. The invariant: the bits of the runs taken off are added. Assumes nothing.
-use Rattle.std.proofs.Common.{refl, arith, rules, ◌∙◌}
+use Rattle.std.proofs.Common.{arith, ◌∙◌}
 use Rattle.format.proofs.RowLaws.{below-set}
 use Rattle.bitmaps.proofs.WordWalk.{word_more, word-done, word_fits}
 use Rattle.bitmaps.proofs.Bitmap.push_word.Goals as goal

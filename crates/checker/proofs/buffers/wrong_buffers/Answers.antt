@@ -4,7 +4,7 @@ use Rattle.std.proofs.lemmas.Iterator.{YieldsList-from_range}
 use Rattle.std.proofs.lemmas.Iterator.Search.{any_from_yields_List}
 use Rattle.format.specs.Bytes.{any_below}
 use Rattle.format.specs.Verdict.{bad_buffers, wrong_buffers}
-use Rattle.checker.proofs.Ranges.{any-all}
+use Rattle.pack.proofs.Ranges.{any-all}
 use Rattle.checker.proofs.buffers.wrong_buffers.Goals as goal
 
 pub returns : goal.returns

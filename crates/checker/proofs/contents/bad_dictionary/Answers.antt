@@ -7,6 +7,7 @@ use mathlib.Core.Path.{◌∙◌, ◌≡◌}
 use native.Mathlib.Omega.{arith}
 use Rattle.format.specs.Node.{kind}
 use Rattle.format.specs.Verdict.{one_of}
+use Rattle.pack.proofs.Bitmap.{none-at, one-at}
 use Rattle.checker.proofs.Fits.{kind-read}
 use Rattle.checker.proofs.Inside.{Looked, bits_in, keys-are, keys_in, valid-keys-are}
 use Rattle.checker.proofs.contents.bad_dictionary.Goals as goal
@@ -32,11 +33,16 @@ overflow_add-at c = omega (arith, (keys-inside (goal.at.overflow_add-at c).After
 pub bad_keys-requires : goal.bad_keys-requires
 bad_keys-requires c = keys-inside (goal.at.bad_keys-requires c).After-child_rows-limit
 
-pub returns-then-n : goal.returns-then-n
-returns-then-n c = c.bad_keys.ensures ∙ keys-are (looked (goal.at.returns-then-n c).After-child_rows-limit) c.if-n.true
+pub returns-in-None : goal.returns-in-None
+returns-in-None c = c.bad_keys.ensures ∙ keys-are (looked (goal.at.returns-in-None c).After-child_rows-limit) (none-at _ _ _ c.bitmap.ensures c.in-None.is)
 
 pub bad_valid_keys-requires : goal.bad_valid_keys-requires
-bad_valid_keys-requires c = let d = c.before.before.before.before in record { w_value = keys-inside (goal.at.bad_valid_keys-requires c).After-child_rows-limit; n_bound = bits_in (looked (goal.at.bad_valid_keys-requires c).After-child_rows-limit) c.if-n.false }
+bad_valid_keys-requires c =
+    let s = one-at _ _ _ _ c.bitmap.ensures c.in-Some.is in
+    let l = (goal.at.bad_valid_keys-requires c).After-child_rows-limit in
+    record { w_value = keys-inside l; n_bound = rw (s.0) (bits_in (looked l) (s.1)) }
 
-pub returns : goal.returns
-returns c = c.bad_valid_keys.ensures ∙ valid-keys-are (looked (goal.at.returns c).After-child_rows-limit) c.if-n.false
+pub returns-in-Some : goal.returns-in-Some
+returns-in-Some c =
+    let s = one-at _ _ _ _ c.bitmap.ensures c.in-Some.is in
+    c.bad_valid_keys.ensures ∙ rw (s.0) (valid-keys-are (looked (goal.at.returns-in-Some c).After-child_rows-limit) (s.1))

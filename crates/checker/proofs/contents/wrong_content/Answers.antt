@@ -5,7 +5,7 @@ use Rattle.std.proofs.lemmas.Iterator.Search.{any_from_yields_List}
 use Rattle.format.specs.Bytes.{any_below}
 use Rattle.format.specs.Node.{kind}
 use Rattle.format.specs.Verdict.{bad_content, wrong_content}
-use Rattle.checker.proofs.Ranges.{any-all}
+use Rattle.pack.proofs.Ranges.{any-all}
 use Rattle.checker.proofs.contents.wrong_content.Goals as goal
 
 pub returns : goal.returns

@@ -5,7 +5,7 @@ use Rattle.std.proofs.lemmas.Iterator.Search.{any_from_yields_List}
 use Rattle.format.specs.Bytes.{any_below}
 use Rattle.format.specs.Node.{kind}
 use Rattle.format.specs.Verdict.{layout, bad_fields, wrong_fields}
-use Rattle.checker.proofs.Ranges.{any-all}
+use Rattle.pack.proofs.Ranges.{any-all}
 use Rattle.checker.proofs.fields.wrong_fields.Goals as goal
 
 pub returns : goal.returns

@@ -5,7 +5,7 @@ use Rattle.std.proofs.lemmas.Iterator.Search.{any_from_yields_List}
 use Rattle.format.specs.Bytes.{any_below}
 use Rattle.format.specs.Node.{last_field, null_count}
 use Rattle.format.specs.Verdict.{wrong_nulls}
-use Rattle.checker.proofs.Ranges.{any-all}
+use Rattle.pack.proofs.Ranges.{any-all}
 use Rattle.checker.proofs.nulls.wrong_nulls.Goals as goal
 
 pub returns-then-carries_counts : goal.returns-then-carries_counts

@@ -7,7 +7,7 @@ use Rattle.std.specs.List.{list_any, range_with_len}
 use Rattle.format.specs.Node.{places}
 use Rattle.format.specs.Verdict.{wrong_rows}
 use Rattle.checker.proofs.Children.{other_rows, children-are}
-use Rattle.checker.proofs.Ranges.{any-all}
+use Rattle.pack.proofs.Ranges.{any-all}
 use Rattle.checker.proofs.rows.wrong_rows.Goals as goal
 
 pub returns : goal.returns

@@ -1,99 +1,60 @@
--- `columns::native::filter_native` meets its contract. What is left to write are the entries of the rows from the cursor's place on; each arm writes a block's. Assumes nothing.
-use mathlib.Core.Path.{refl}
-use native.Mathlib.Omega.{arith}
-use Rattle.predicate.proofs.Steps.{falls}
+-- `columns::native::filter_native` meets its contract. What is left to write are the entries of the rows that the blocks have yet to give; each arm writes a block's. Assumes nothing.
+use Rattle.std.specs.Prelude.{Some}
+use Rattle.predicate.specs.declared.Block.TheVariants.{Run, Word, Listed}
+use Rattle.predicate.specs.Blocks.{GivesBlock}
 use Rattle.append.proofs.CellLaws.{words-one}
-use Rattle.columns.proofs.Walk.{walk_none, walk_more, walk-done, walk_same}
-use Rattle.columns.proofs.Passing.{walk-fits, walk-on}
-use Rattle.columns.proofs.EntryWalk.{entries-cut, run-needs, word-needs, list-needs}
+use Rattle.columns.proofs.Walk.{walk_none, walk_more, walk-fits, walk-done}
+use Rattle.columns.proofs.Passing.{walk-on}
+use Rattle.columns.proofs.EntryWalk.{entries-cut, run-needs, block-needs}
 use Rattle.columns.proofs.native.filter_native.Goals as goal
+use Rattle.columns.proofs.native.filter_native.Goals.{In-Run, In-Word, In-Listed}
 
-pub next_block-requires : goal.next_block-requires
-next_block-requires c = record { readable = c.requires.readable; in_step = c.loop-a.invariant.step }
+pub loop-block-init : goal.loop-block-init
+loop-block-init c = walk_none c.new-blocks.ensures.begun
+
+run : (c : In-Run) → GivesBlock c.loop-block.blocks (Some (Run c.in-Run.start c.in-Run.end)) c.next.new.self
+run c = rw c.in-Run.is at c.in-Some.ensures.steps
+
+word : (c : In-Word) → GivesBlock c.loop-block.blocks (Some (Word c.in-Word.base c.in-Word.word)) c.next.new.self
+word c = rw c.in-Word.is at c.in-Some.ensures.steps
+
+listed : (c : In-Listed) → GivesBlock c.loop-block.blocks (Some (Listed c.in-Listed.rows)) c.next.new.self
+listed c = rw c.in-Listed.is at c.in-Some.ensures.steps
 
 pub copy_rows-here-requires : goal.copy_rows-here-requires
-copy_rows-here-requires c =
-    let t = c.before.before in
-    run-needs t.loop-a.invariant t.requires.entries t.requires.len_in_bounds (rw c.in-Run.is at t.next_block.ensures)
+copy_rows-here-requires c = run-needs c.loop-block.invariant c.requires.entries c.requires.len_in_bounds (run (goal.at.copy_rows-here-requires c).In-Run)
 
-pub pass_runs-taken-requires : goal.pass_runs-taken-requires
-pass_runs-taken-requires c = let k = c.before in
-    let t = k.before.before.before.before.before in
-    let h = t.requires in
-    let g = rw k.in-Run.is at t.next_block.ensures in
-    let w = walk_more t.loop-a.invariant (entries-cut _ _ _) g.2 k.copy_rows-here.ensures in
-    record { readable = h.readable; in_step = w.step; entries = h.entries; place_in_bounds = walk-fits (entries-cut _ _ _) w h.len_in_bounds }
+pub pass_runs-here-requires-clause-place_in_bounds : goal.pass_runs-here-requires-clause-place_in_bounds
+pass_runs-here-requires-clause-place_in_bounds c =
+    walk-fits (walk_more c.loop-block.invariant (entries-cut _ _ _) (run (goal.at.pass_runs-here-requires-clause-place_in_bounds c).In-Run) c.in-Some.ensures.goes.keeps c.copy_rows-here.ensures) c.requires.len_in_bounds
 
-pub loop-a-smaller-in-Run : goal.loop-a-smaller-in-Run
-loop-a-smaller-in-Run c =
-    let k = c.before.before.before.before.before in
-    let t = k.before.before.before.before.before in
-    let g = rw k.in-Run.is at t.next_block.ensures in
-    let q = c.pass_runs-taken.ensures in
-    omega (arith, falls g.2, q.on, q.step.inside)
+pub loop-block-preserved-in-Run : goal.loop-block-preserved-in-Run
+loop-block-preserved-in-Run c =
+    walk-on (entries-cut _ _ _) (walk_more c.loop-block.invariant (entries-cut _ _ _) (run (goal.at.loop-block-preserved-in-Run c).In-Run) c.in-Some.ensures.goes.keeps c.copy_rows-here.ensures) c.pass_runs-here.ensures
 
-pub loop-a-preserved-in-Run : goal.loop-a-preserved-in-Run
-loop-a-preserved-in-Run c =
-    let k = c.before.before.before.before.before in
-    let t = k.before.before.before.before.before in
-    let g = rw k.in-Run.is at t.next_block.ensures in
-    let w = walk_more t.loop-a.invariant (entries-cut _ _ _) g.2 k.copy_rows-here.ensures in
-    walk-on (entries-cut _ _ _) w c.pass_runs-taken.ensures
+pub gather_words-here-requires-clause-among : goal.gather_words-here-requires-clause-among
+gather_words-here-requires-clause-among c = rw words-one (block-needs c.loop-block.invariant c.requires.entries c.requires.len_in_bounds (word (goal.at.gather_words-here-requires-clause-among c).In-Word)).0
 
-pub gather_words-here-requires : goal.gather_words-here-requires
-gather_words-here-requires c = let t = c.before.before.before in
-    let g = rw c.in-Word.is at t.next_block.ensures in
-    record { words_bound = omega (arith, g.0, t.requires.entries.small); among = rw words-one (word-needs t.loop-a.invariant t.requires.entries t.requires.len_in_bounds g).0; words_in_bounds = rw words-one (word-needs t.loop-a.invariant t.requires.entries t.requires.len_in_bounds g).1 }
+pub gather_words-here-requires-clause-words_in_bounds : goal.gather_words-here-requires-clause-words_in_bounds
+gather_words-here-requires-clause-words_in_bounds c = rw words-one (block-needs c.loop-block.invariant c.requires.entries c.requires.len_in_bounds (word (goal.at.gather_words-here-requires-clause-words_in_bounds c).In-Word)).1
 
-pub pass_words-taken-requires : goal.pass_words-taken-requires
-pass_words-taken-requires c = let k = c.before in
-    let t = k.before.before.before.before.before.before in
-    let h = t.requires in
-    let g = rw k.in-Word.is at t.next_block.ensures in
-    let w = walk_more t.loop-a.invariant (entries-cut _ _ _) g.1 (rw words-one at k.gather_words-here.ensures) in
-    record { readable = h.readable; in_step = w.step; entries = h.entries; place_in_bounds = walk-fits (entries-cut _ _ _) w h.len_in_bounds }
+pub pass_words-here-requires-clause-place_in_bounds : goal.pass_words-here-requires-clause-place_in_bounds
+pass_words-here-requires-clause-place_in_bounds c =
+    walk-fits (walk_more c.loop-block.invariant (entries-cut _ _ _) (word (goal.at.pass_words-here-requires-clause-place_in_bounds c).In-Word) c.in-Some.ensures.goes.keeps (rw words-one at c.gather_words-here.ensures)) c.requires.len_in_bounds
 
-pub loop-a-smaller-in-Word : goal.loop-a-smaller-in-Word
-loop-a-smaller-in-Word c =
-    let k = c.before.before.before.before.before in
-    let t = k.before.before.before.before.before.before in
-    let g = rw k.in-Word.is at t.next_block.ensures in
-    let q = c.pass_words-taken.ensures in
-    omega (arith, falls g.1, q.on, q.step.inside)
+pub loop-block-preserved-in-Word : goal.loop-block-preserved-in-Word
+loop-block-preserved-in-Word c =
+    walk-on (entries-cut _ _ _) (walk_more c.loop-block.invariant (entries-cut _ _ _) (word (goal.at.loop-block-preserved-in-Word c).In-Word) c.in-Some.ensures.goes.keeps (rw words-one at c.gather_words-here.ensures)) c.pass_words-here.ensures
 
-pub loop-a-preserved-in-Word : goal.loop-a-preserved-in-Word
-loop-a-preserved-in-Word c =
-    let k = c.before.before.before.before.before in
-    let t = k.before.before.before.before.before.before in
-    let g = rw k.in-Word.is at t.next_block.ensures in
-    let w = walk_more t.loop-a.invariant (entries-cut _ _ _) g.1 (rw words-one at k.gather_words-here.ensures) in
-    walk-on (entries-cut _ _ _) w c.pass_words-taken.ensures
+pub gather_list-here-requires-clause-among : goal.gather_list-here-requires-clause-among
+gather_list-here-requires-clause-among c = (block-needs c.loop-block.invariant c.requires.entries c.requires.len_in_bounds (listed (goal.at.gather_list-here-requires-clause-among c).In-Listed)).0
 
-pub gather_list-here-requires : goal.gather_list-here-requires
-gather_list-here-requires c = let t = c.before.before in
-    let both = list-needs t.loop-a.invariant t.requires.entries t.requires.len_in_bounds (rw c.in-Listed.is at t.next_block.ensures) in record { i_le_j = both.0; among = both.1.0; i_in_bounds = both.1.1 }
+pub gather_list-here-requires-clause-rows_in_bounds : goal.gather_list-here-requires-clause-rows_in_bounds
+gather_list-here-requires-clause-rows_in_bounds c = (block-needs c.loop-block.invariant c.requires.entries c.requires.len_in_bounds (listed (goal.at.gather_list-here-requires-clause-rows_in_bounds c).In-Listed)).1
 
-pub loop-a-smaller : goal.loop-a-smaller
-loop-a-smaller c =
-    let t = c.before.before.before.before.before in
-    let g = rw c.in-Listed.is at t.next_block.ensures in
-    falls g.2
-
-pub loop-a-preserved : goal.loop-a-preserved
-loop-a-preserved c =
-    let t = c.before.before.before.before.before in
-    let g = rw c.in-Listed.is at t.next_block.ensures in
-    walk_more t.loop-a.invariant (entries-cut _ _ _) g.2 c.gather_list-here.ensures
+pub loop-block-preserved : goal.loop-block-preserved
+loop-block-preserved c =
+    walk_more c.loop-block.invariant (entries-cut _ _ _) (listed (goal.at.loop-block-preserved c).In-Listed) c.in-Some.ensures.goes.keeps c.gather_list-here.ensures
 
 pub returns : goal.returns
-returns c =
-    walk-done c.loop-a.invariant (entries-cut _ _ _) (rw c.in-End.is at c.next_block.ensures)
-
-pub loop-a-init : goal.loop-a-init
-loop-a-init c = walk_none c.requires.holds
-
-pub slice_bounds-gather_words-end : goal.slice_bounds-gather_words-end
-slice_bounds-gather_words-end c = refl
-
-pub shape_of-out : goal.shape_of-out
-shape_of-out c = walk_same c.loop-a.invariant
+returns c = walk-done c.loop-block.invariant (entries-cut _ _ _) c.in_default.ensures.steps

@@ -1,13 +1,12 @@
--- What the loops of `native::filter_native` keep, and their measures. Assumes nothing.
+-- What the loop of `native::filter_native` keeps, and its measure. Assumes nothing.
 use Prim.Native.Nat.{◌-◌}
-use Rattle.predicate.specs.Selection.{kept_by}
-use Rattle.append.specs.Cells.{entries_of}
+use Rattle.predicate.specs.Selection.{reach}
+use Rattle.gather.specs.Column.{entries_in}
 use Rattle.columns.proofs.Walk.{Walked}
 use Rattle.columns.proofs.native.filter_native.Given as goal
 
-abbrev pub invariant-loop-a : goal.invariant-loop-a
-invariant-loop-a l =
-    Walked (entries_of l.width l.journal l.first) l.sel (kept_by l.sel l.s l.mask) l.mask.len l.list l.initial.out l.at l.out l.here l.cur
+abbrev pub invariant-loop-block : goal.invariant-loop-block
+invariant-loop-block l = Walked (entries_in l.column) l.sel l.initial.out l.at l.out l.here l.blocks
 
-abbrev pub decreases-loop-a : goal.decreases-loop-a
-decreases-loop-a l = l.mask.len - l.cur.place
+abbrev pub decreases-loop-block : goal.decreases-loop-block
+decreases-loop-block l = reach l.blocks.sel - l.blocks.place

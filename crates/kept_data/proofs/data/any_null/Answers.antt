@@ -1,63 +1,29 @@
--- `kept_data::data::any_null` meets its contract: by words where the node keeps the root's rows. Assumes nothing.
-use mathlib.Core.Path.{◌∙◌}
-use native.Mathlib.Omega.{arith}
-use Rattle.slots.specs.Source.{slot_of}
-use Rattle.nesting.proofs.Sieve.{skip-fits}
-use Rattle.kept_data.proofs.Nulls.{unmarked, has-bitmap, marks-fit}
+-- `any_null` meets its contract. Assumes nothing.
+use Rattle.std.proofs.Common.{sym, ◌∙◌, arith}
+use Rattle.format.specs.Node.{places}
+use Rattle.slots.specs.Slot.{slot_in}
+use Rattle.journal.proofs.Marks.{unmarked, marked-at}
+use Rattle.kept_data.proofs.Nulls.{no-nulls, marks-fit, valid-bit}
 use Rattle.kept_data.proofs.Rooted.{root-null}
-use borrow.Author.Rules.{rules}
 use Rattle.kept_data.proofs.data.any_null.Goals as goal
 
-pub overflow_mul-at : goal.overflow_mul-at
-overflow_mul-at c = search rules
-
-pub overflow_add-at : goal.overflow_add-at
-overflow_add-at c = search rules
-
-pub offset_bounds-table-node : goal.offset_bounds-table-node
-offset_bounds-table-node c = search rules
-
-pub bounds-table-node : goal.bounds-table-node
-bounds-table-node c = search rules
-
-pub returns-then-at : goal.returns-then-at
-returns-then-at c = unmarked c.requires.ready c.requires.node_bound c.if-at.true
-
-pub at_root-requires : goal.at_root-requires
-at_root-requires c = search rules
-
-pub overflow_cast-first : goal.overflow_cast-first
-overflow_cast-first c = omega (arith, marks-fit c.requires.ready c.requires.node_bound (has-bitmap c.requires.ready c.requires.node_bound c.if-at.false))
-
-pub overflow_mul-first : goal.overflow_mul-first
-overflow_mul-first c = omega (arith, marks-fit c.requires.ready c.requires.node_bound (has-bitmap c.requires.ready c.requires.node_bound c.if-at.false))
-
-pub overflow_mul-first-then-at_root : goal.overflow_mul-first-then-at_root
-overflow_mul-first-then-at_root c = search rules
-
-pub overflow_add-first : goal.overflow_add-first
-overflow_add-first c = search rules
-
-pub offset_bounds-table-node-then-at_root : goal.offset_bounds-table-node-then-at_root
-offset_bounds-table-node-then-at_root c = search rules
-
-pub bounds-table-node-then-at_root : goal.bounds-table-node-then-at_root
-bounds-table-node-then-at_root c = search rules
-
-pub overflow_cast-first-then-at_root : goal.overflow_cast-first-then-at_root
-overflow_cast-first-then-at_root c = omega (arith, skip-fits c.requires.ready c.requires.node_bound)
-
-pub overflow_add-first-then-at_root : goal.overflow_add-first-then-at_root
-overflow_add-first-then-at_root c = omega (arith, skip-fits c.requires.ready c.requires.node_bound, marks-fit c.requires.ready c.requires.node_bound (has-bitmap c.requires.ready c.requires.node_bound c.if-at.false))
+pub returns-in_default : goal.returns-in_default
+returns-in_default c = no-nulls _ _ _ (unmarked c.args.counted.journal.now.bytes.now c.args.node (sym c.in_default.is ∙ c.marks.ensures))
 
 pub null_at_root-requires : goal.null_at_root-requires
-null_at_root-requires c = record { lies = c.requires.lies; first_bound = omega (arith, skip-fits c.requires.ready c.requires.node_bound, marks-fit c.requires.ready c.requires.node_bound (has-bitmap c.requires.ready c.requires.node_bound c.if-at.false)) }
+unfolding places
+null_at_root-requires c =
+    let sound = c.args.counted.ready.sound in
+    let m = marked-at c.args.counted.journal.now.bytes.now c.args.node (sym c.in-Some.is ∙ c.marks.ensures) in
+    record { first_bound = omega (arith, m.1, marks-fit sound c.requires.inside (m.0), sound.agree.limit c.args.node c.requires.inside) }
 
 pub returns-then-at_root : goal.returns-then-at_root
-returns-then-at_root c = c.null_at_root.ensures ∙ root-null c.requires.ready c.requires.node_bound (has-bitmap c.requires.ready c.requires.node_bound c.if-at.false) (slot_of _ _) _ (c.at_root.ensures.same c.if-at_root.true _)
+returns-then-at_root c =
+    let m = marked-at c.args.counted.journal.now.bytes.now c.args.node (sym c.in-Some.is ∙ c.marks.ensures) in
+    c.null_at_root.ensures
+    ∙ root-null _ _ _ _ (slot_in c.args.counted.source) _ (valid-bit c.args.counted.ready.sound c.requires.inside (m.0) (m.1)) (c.at_root.ensures.same c.if-at_root.true _)
 
 pub null_by_stretches-requires : goal.null_by_stretches-requires
-null_by_stretches-requires c = record { lies = c.requires.lies; ready = c.requires.ready; node_bound = (c.requires.node_bound, has-bitmap c.requires.ready c.requires.node_bound c.if-at.false) }
-
-pub returns : goal.returns
-returns c = search rules
+null_by_stretches-requires c =
+    let m = marked-at c.args.counted.journal.now.bytes.now c.args.node (sym c.in-Some.is ∙ c.marks.ensures) in
+    record { inside = c.requires.inside; known = c.requires.known; bitmap = m.0; first = m.1 }

@@ -1,97 +1,77 @@
--- `kept_data::data::null_by_stretches` meets its contract. The loop's invariant: no kept row below r is null. Assumes nothing.
-use native.Mathlib.Omega.{arith}
-use borrow.Author.Rules.{rules}
-use mathlib.Core.Path.{sym, ◌∙◌}
-use Rattle.format.specs.Node.{valid}
-use Rattle.nesting.specs.Rows.{keeps}
-use Rattle.nesting.proofs.Sieve.{node-few, len_is, len-few, len-fits, skip-fits}
-use Rattle.stretches.proofs.Minding.{seen_none, alike-first}
-use Rattle.kept_data.proofs.Nulls.{marks-fit, valid-bit, any-start, null-valid, null-dropped, null-none, null-found}
+-- `null_by_stretches` meets its contract. Assumes nothing.
+use Rattle.std.proofs.Common.{◌≡◌, ◌+◌, ◌*◌, min, sym, ap, ◌∙◌, arith}
+use Rattle.format.specs.Node.{rows, valid}
+use Rattle.stretches.specs.Stretches.{kept_in}
+use Rattle.stretches.specs.declared.told.Stretches.{Stretches}
+use Rattle.nesting.proofs.ByKind.{rows-small, skip-small}
+use Rattle.stretches.proofs.Minding.{alike-first}
+use Rattle.kept_data.proofs.Nulls.{marks-fit, valid-bit, word-valid, any-start, null-valid, null-valids, null-dropped, null-none, null-found}
 use Rattle.kept_data.proofs.data.null_by_stretches.Goals as goal
+use Rattle.kept_data.proofs.data.null_by_stretches.Goals.{else-not-bit-via-then-not-bit+else-told, else-not-bit-via-else-not-bit}
 
-pub overflow_mul-len : goal.overflow_mul-len
-overflow_mul-len c = omega (arith, node-few c.requires.ready c.requires.node_bound.0)
-
-pub overflow_add-len : goal.overflow_add-len
-overflow_add-len c = omega (arith, node-few c.requires.ready c.requires.node_bound.0)
-
-pub offset_bounds-table-node : goal.offset_bounds-table-node
-offset_bounds-table-node c = omega (arith, node-few c.requires.ready c.requires.node_bound.0)
-
-pub bounds-table-node : goal.bounds-table-node
-bounds-table-node c = omega (arith, node-few c.requires.ready c.requires.node_bound.0)
-
-pub overflow_cast-len : goal.overflow_cast-len
-overflow_cast-len c = omega (arith, len-fits c.requires.ready c.requires.node_bound.0)
-
-pub overflow_mul-first : goal.overflow_mul-first
-overflow_mul-first c = omega (arith, node-few c.requires.ready c.requires.node_bound.0)
+pub loop-w-init : goal.loop-w-init
+loop-w-init c = let z : min (rows c.args.counted.journal.now.bytes.now c.args.node) 0 ≡ 0 = omega arith in (c.new-stretches.ensures, rw z (any-start _))
 
 pub overflow_add-first : goal.overflow_add-first
-overflow_add-first c = omega (arith, node-few c.requires.ready c.requires.node_bound.0)
+overflow_add-first c =
+    let s = c.args.counted.ready.sound in
+    omega (arith, c.requires.first, marks-fit s c.requires.inside c.requires.bitmap, skip-small s c.args.node c.requires.inside, rows-small s c.args.node c.requires.inside)
 
-pub offset_bounds-table-node-2 : goal.offset_bounds-table-node-2
-offset_bounds-table-node-2 c = omega (arith, node-few c.requires.ready c.requires.node_bound.0)
+-- a word of valid rows
+pub loop-w-preserved-then-load64 : goal.loop-w-preserved-then-load64
+loop-w-preserved-then-load64 c =
+    let r = c.requires in
+    let n = rows c.args.counted.journal.now.bytes.now c.args.node in
+    let all = word-valid c.args.counted.ready.sound r.inside r.bitmap r.first c.load64.ensures c.if-load64.true in (
+      c.loop-w.invariant.0,
+      null-valids (kept_in c.args.counted c.args.node) (valid c.args.counted.journal.now.bytes.now c.args.node) (min n (64 * c.loop-w.w)) (min n (64 * (c.loop-w.w + 1))) (omega arith)
+          (record { at = λ j l h. all.at j (omega arith) (omega arith) }) c.loop-w.invariant.1,
+    )
 
-pub bounds-table-node-2 : goal.bounds-table-node-2
-bounds-table-node-2 c = omega (arith, node-few c.requires.ready c.requires.node_bound.0)
+pub overflow_add-base : goal.overflow_add-base
+overflow_add-base c = omega (arith, rows-small c.args.counted.ready.sound c.args.node c.requires.inside)
 
-pub overflow_cast-first : goal.overflow_cast-first
-overflow_cast-first c = omega (arith, marks-fit c.requires.ready c.requires.node_bound.0 c.requires.node_bound.1)
+pub loop-row-init : goal.loop-row-init
+loop-row-init c =
+    let n = rows c.args.counted.journal.now.bytes.now c.args.node in
+    let z : min n (64 * c.loop-w.w) ≡ 64 * c.loop-w.w = omega arith in
+    (c.loop-w.invariant.0, rw z at c.loop-w.invariant.1)
 
-pub overflow_mul-first-2 : goal.overflow_mul-first-2
-overflow_mul-first-2 c = omega (arith, marks-fit c.requires.ready c.requires.node_bound.0 c.requires.node_bound.1)
+pub overflow_add-first-in-loop-row : goal.overflow_add-first-in-loop-row
+overflow_add-first-in-loop-row c =
+    let s = c.args.counted.ready.sound in
+    omega (arith, c.requires.first, marks-fit s c.requires.inside c.requires.bitmap, skip-small s c.args.node c.requires.inside, rows-small s c.args.node c.requires.inside)
 
-pub overflow_mul-first-3 : goal.overflow_mul-first-3
-overflow_mul-first-3 c = omega (arith, node-few c.requires.ready c.requires.node_bound.0)
+pub returns-then-told : goal.returns-then-told
+returns-then-told c =
+    let r = c.requires in
+    null-found c.args.counted r.inside c.loop-row.row (omega arith) (sym (valid-bit c.args.counted.ready.sound r.inside r.bitmap r.first c.loop-row.row) ∙ sym c.if-not-bit.ensures)
+    (alike-first (rw c.loop-row.invariant.0 at c.told.ensures.alike) ∙ c.if-told.true)
 
-pub overflow_add-first-2 : goal.overflow_add-first-2
-overflow_add-first-2 c = omega (arith, node-few c.requires.ready c.requires.node_bound.0)
+pub loop-row-preserved : goal.loop-row-preserved
+loop-row-preserved c =
+    let r = c.requires in
+    let k = c.loop-row.invariant in
+    let keeps = kept_in c.args.counted c.args.node in
+    let fine = valid c.args.counted.journal.now.bytes.now c.args.node in
+    elim c.else-not-bit.branch [
+      | else-not-bit-via-then-not-bit+else-told w ↦ (
+        ap (λ (s : Stretches). s.counted) w.stretches-is ∙ w.told.ensures.same ∙ k.0,
+        null-dropped keeps fine c.loop-row.row k.1 (alike-first (rw k.0 at w.told.ensures.alike) ∙ w.if-told.false),
+      )
+      | else-not-bit-via-else-not-bit w ↦ (
+        ap (λ (s : Stretches). s.counted) w.stretches-is ∙ k.0,
+        null-valid keeps fine c.loop-row.row k.1 (sym (valid-bit c.args.counted.ready.sound r.inside r.bitmap r.first c.loop-row.row) ∙ sym c.bit.ensures ∙ w.if-not-bit.false),
+      )
+    ]
 
-pub offset_bounds-table-node-3 : goal.offset_bounds-table-node-3
-offset_bounds-table-node-3 c = omega (arith, node-few c.requires.ready c.requires.node_bound.0)
-
-pub bounds-table-node-3 : goal.bounds-table-node-3
-bounds-table-node-3 c = omega (arith, node-few c.requires.ready c.requires.node_bound.0)
-
-pub overflow_cast-first-2 : goal.overflow_cast-first-2
-overflow_cast-first-2 c = omega (arith, skip-fits c.requires.ready c.requires.node_bound.0)
-
-pub overflow_add-first-3 : goal.overflow_add-first-3
-overflow_add-first-3 c = omega (arith, skip-fits c.requires.ready c.requires.node_bound.0, marks-fit c.requires.ready c.requires.node_bound.0 c.requires.node_bound.1)
-
-pub none_told-seen-requires : goal.none_told-seen-requires
-none_told-seen-requires c = search rules
-
-pub loop-r-init : goal.loop-r-init
-loop-r-init c = (len_is c.requires.ready c.requires.node_bound.0, omega arith, any-start _, seen_none _ _ c.none_told-seen.ensures)
-
-pub overflow_add-r : goal.overflow_add-r
-overflow_add-r c = omega (arith, len-few c.requires.ready c.requires.node_bound.0)
-
-pub overflow_add-first-in-loop-r : goal.overflow_add-first-in-loop-r
-overflow_add-first-in-loop-r c = omega (arith, len-few c.requires.ready c.requires.node_bound.0, skip-fits c.requires.ready c.requires.node_bound.0, marks-fit c.requires.ready c.requires.node_bound.0 c.requires.node_bound.1)
-
-pub bit-requires : goal.bit-requires
-bit-requires c = search rules
-
-pub loop-r-smaller-then-bit : goal.loop-r-smaller-then-bit
-loop-r-smaller-then-bit c = omega arith
-
-pub loop-r-preserved-then-bit : goal.loop-r-preserved-then-bit
-loop-r-preserved-then-bit c = (c.loop-r.invariant.0, omega arith, null-valid (keeps _ _ _) (valid _ _) c.loop-r.r c.loop-r.invariant.2 (sym (valid-bit c.requires.ready c.requires.node_bound.0 c.requires.node_bound.1 c.loop-r.r) ∙ sym c.bit.ensures ∙ c.if-bit.true), c.loop-r.invariant.3)
-
-pub told-s-requires : goal.told-s-requires
-told-s-requires c = record { lies = (c.requires.lies, c.loop-r.invariant.3); ready = c.requires.ready; node_bound = (c.requires.node_bound.0, omega (arith, c.loop-r.invariant.0)) }
-
-pub returns-then-s : goal.returns-then-s
-returns-then-s c = null-found c.requires.ready c.requires.node_bound.0 c.loop-r.r (omega (arith, c.loop-r.invariant.0)) (sym (valid-bit c.requires.ready c.requires.node_bound.0 c.requires.node_bound.1 c.loop-r.r) ∙ sym c.bit.ensures ∙ c.if-bit.false) (alike-first c.told-s.ensures.alike ∙ c.if-s.true)
-
-pub loop-r-smaller : goal.loop-r-smaller
-loop-r-smaller c = omega arith
-
-pub loop-r-preserved : goal.loop-r-preserved
-loop-r-preserved c = (c.loop-r.invariant.0, omega arith, null-dropped (keeps _ _ _) (valid _ _) c.loop-r.r c.loop-r.invariant.2 (alike-first c.told-s.ensures.alike ∙ c.if-s.false), c.told-s.ensures.seen)
+pub loop-w-preserved : goal.loop-w-preserved
+loop-w-preserved c =
+    let n = rows c.args.counted.journal.now.bytes.now c.args.node in
+    let z : c.loop-row.row ≡ min n (64 * (c.loop-w.w + 1)) = omega arith in
+    (c.loop-row.invariant.0, rw z at c.loop-row.invariant.1)
 
 pub returns : goal.returns
-returns c = null-none c.requires.ready c.requires.node_bound.0 c.loop-r.r (omega (arith, c.loop-r.invariant.0)) c.loop-r.invariant.2
+returns c =
+    let n = rows c.args.counted.journal.now.bytes.now c.args.node in
+    null-none c.args.counted c.requires.inside (min n (64 * c.loop-w.w)) (omega arith) c.loop-w.invariant.1

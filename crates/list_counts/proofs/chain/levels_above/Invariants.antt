@@ -1,10 +1,6 @@
--- What the loops of `chain::levels_above` keep, and their measures. Assumes nothing.
-use Prim.Native.Nat.{◌-◌}
+-- What the loop of `chain::levels_above` keeps: the levels lead from node t's rows down to the node's. Assumes nothing.
 use Rattle.list_counts.proofs.Climbing.{Climbing}
 use Rattle.list_counts.proofs.chain.levels_above.Given as goal
 
-abbrev pub invariant-loop-count : goal.invariant-loop-count
-invariant-loop-count l = Climbing l.journal l.node l.at l.count l.t
-
-abbrev pub decreases-loop-count : goal.decreases-loop-count
-decreases-loop-count l = 8 - l.count
+abbrev pub invariant-loop-k : goal.invariant-loop-k
+invariant-loop-k l = Climbing l.journal.bytes.now l.node l.offsets l.k l.t

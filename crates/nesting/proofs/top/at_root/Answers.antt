@@ -2,8 +2,5 @@
 use Rattle.nesting.proofs.Levels.{level-root}
 use Rattle.nesting.proofs.top.at_root.Goals as goal
 
-pub top_of-requires : goal.top_of-requires
-top_of-requires c = c.requires
-
 pub returns : goal.returns
 returns c = level-root c.top_of.ensures.level

@@ -1,47 +1,14 @@
--- `stretches::parts::list_past` meets its contract. Assumes nothing.
-use native.Mathlib.Omega.{arith}
-use Rattle.nesting.proofs.ListAt.{list-few, list-short, list-rows, rows_few}
-use Rattle.stretches.proofs.Places.{before_more, past-here, past_all}
+-- `list_past` meets its contract. Assumes nothing.
+use Rattle.std.proofs.Common.{◌+◌, rules, tests, refl, ltb, arith}
+use Rattle.std.proofs.lemmas.Iterator.{YieldsList-from_range}
+use Rattle.std.proofs.lemmas.Iterator.Search.{find_from_yields_List}
+use Rattle.format.specs.Node.{first_number}
+use Rattle.stretches.proofs.Searching.{sought}
+use Rattle.stretches.proofs.Places.{past-found}
 use Rattle.stretches.proofs.parts.list_past.Goals as goal
 
-pub overflow_mul-len : goal.overflow_mul-len
-overflow_mul-len c = omega (arith, list-few c.requires)
-
-pub overflow_add-len : goal.overflow_add-len
-overflow_add-len c = omega (arith, list-few c.requires)
-
-pub offset_bounds-table-i : goal.offset_bounds-table-i
-offset_bounds-table-i c = omega (arith, list-few c.requires)
-
-pub bounds-table-i : goal.bounds-table-i
-bounds-table-i c = omega (arith, list-few c.requires)
-
-pub overflow_cast-len : goal.overflow_cast-len
-overflow_cast-len c = omega (arith, list-short c.requires)
-
-pub list_from-r-requires : goal.list_from-r-requires
-list_from-r-requires c = c.requires
-
-pub loop-r-init : goal.loop-r-init
-loop-r-init c = (list-rows c.requires, c.list_from-r.ensures)
-
-pub overflow_add-r : goal.overflow_add-r
-overflow_add-r c = omega (arith, rows_few c.requires, c.loop-r.invariant.0)
-
-pub list_start-requires : goal.list_start-requires
-list_start-requires c = record { at_list = c.requires; r_bound = omega (arith, c.loop-r.invariant.0) }
-
-pub returns-then-x-list_start : goal.returns-then-x-list_start
-returns-then-x-list_start c = past-here c.requires c.loop-r.invariant.1 (omega (arith, c.loop-r.invariant.0)) c.list_start.ensures (omega arith)
-
-pub overflow_add-r-in-loop-r : goal.overflow_add-r-in-loop-r
-overflow_add-r-in-loop-r c = omega (arith, rows_few c.requires, c.loop-r.invariant.0)
-
-pub loop-r-smaller : goal.loop-r-smaller
-loop-r-smaller c = omega arith
-
-pub loop-r-preserved : goal.loop-r-preserved
-loop-r-preserved c = (c.loop-r.invariant.0, before_more c.requires c.loop-r.invariant.1 (omega (arith, c.loop-r.invariant.0)) c.list_start.ensures (omega arith))
-
 pub returns : goal.returns
-returns c = past_all c.requires c.loop-r.invariant.1 (omega (arith, c.loop-r.invariant.0))
+returns c =
+    let l = c.args.list in
+    let found = find_from_yields_List (λ k. ltb c.args.x (first_number l.width l.journal.now.bytes.now l.node (k + 1))) _ _ c.find.result c.find.ensures.ran (YieldsList-from_range _ _ _ refl refl) (λ x b q k. search (rules, tests)) in
+    rw c.unwrap_or.ensures (past-found l.at c.list_from.ensures c.rows-rows.ensures (sought _ c.list_from.result c.rows-rows.result _ (omega (arith, c.list_from.ensures.high)) found))

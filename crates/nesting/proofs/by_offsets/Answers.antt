@@ -1,0 +1,15 @@
+-- `nesting::by_offsets` meets its contract: the root has no list before it. Assumes nothing.
+use Prim.Native.Nat.{◌-◌}
+use mathlib.Core.Bool.{◌&&◌}
+use mathlib.Core.Path.{ap₂, ◌∙◌}
+use native.Mathlib.Omega.{arith}
+use Rattle.nesting.specs.Rows.{by_offsets}
+use Rattle.nesting.proofs.Handed.{direct}
+use Rattle.nesting.proofs.by_offsets.Goals as goal
+
+pub returns-then-i-eq0 : goal.returns-then-i-eq0
+unfolding by_offsets
+returns-then-i-eq0 c = rw c.if-i-eq0.true
+
+pub returns : goal.returns
+returns c = ap₂ ◌&&◌ c.plain_list.ensures c.plain_entries.ensures ∙ direct _ (c.args.i - 1) c.args.i (omega (arith, c.if-i-eq0.false))

@@ -1,2 +1,0 @@
--- Laws of the rows that each node keeps.
-pub mod Tops
