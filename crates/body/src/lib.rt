@@ -15,7 +15,7 @@ ghost use Rattle.body.specs.Written.{column_of, fields_of, put_at, Small, Writte
 use format::Kind;
 use journal::Journal;
 use kept_data::data::any_null;
-use nesting::by_offsets;
+use nesting::copied_by_offsets;
 use node_body::{Buffers, put_buffers, put_values};
 use nodes::picked::Picked;
 use pack::Node;
@@ -95,7 +95,7 @@ fn put_kept(out: &mut [u8], at: usize, regions: &Regions, i: usize) -> Buffers
 {
     let counted = regions.counted;
     let journal = counted.journal;
-    if by_offsets(journal, i) {
+    if copied_by_offsets(journal, i) {
         return put_listed(out, at, regions, i - 1);
     }
     let picked = Picked {

@@ -13,7 +13,7 @@ ghost use Rattle.fill.specs.Tells.{Tells};
 use journal::Journal;
 use list_marks::mark_lists;
 use nesting::top::top_of;
-use nesting::{Counted, Handing, by_offsets, takes_scratch};
+use nesting::{Counted, Handing, copied_by_offsets, takes_scratch};
 use run_marks::fill_runs;
 use slots::{Bits, Source};
 use stretch_marks::fill_kept;
@@ -56,7 +56,7 @@ pub fn told_by<'a>(
     if top == 0 {
         return Teller::Root;
     }
-    if takes_scratch(journal, journal.parent(top)) {
+    if takes_scratch(journal.node(journal.parent(top)).kind) {
         let bits = plain_bits(places[top], journal.rows(top));
         return Teller::Bitmap(Source {
             bytes: scratch,
@@ -101,7 +101,7 @@ fn takes_bitmap(journal: &Journal, i: usize) -> bool
     requires { i < node_count journal.now.bytes.now }
     ensures { result ≡ takes_bitmap journal.now.bytes.now i }
 {
-    takes_scratch(journal, i) && !by_offsets(journal, i + 1)
+    takes_scratch(journal.node(i).kind) && !copied_by_offsets(journal, i + 1)
 }
 
 // The bitmaps of all children of runs nodes and lists that take one, one after another from the front; where each child's starts, and 0 for

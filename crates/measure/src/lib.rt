@@ -103,7 +103,7 @@ pub fn scratch_needed(journal: &Journal) -> usize
 {
     let mut need: usize = 0;
     for i in 0..journal.node_count() {
-        if !takes_scratch(journal, i) {
+        if !takes_scratch(journal.node(i).kind) {
             continue;
         }
         need += bytes_for(journal.rows(i + 1));

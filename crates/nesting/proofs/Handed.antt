@@ -1,17 +1,23 @@
 -- What a node hands on, by its kind; a kind's number, by its name. Assumes nothing.
 use Prim.Native.Nat.{ℕ, suc}
-use mathlib.Core.Bool.{true, false, ◌&&◌, ◌||◌, false≢true}
-use mathlib.Core.List.{List}
+use mathlib.Core.Bool.{Bool, true, false, ◌&&◌, ◌||◌, false≢true}
+use mathlib.Core.List.{List, ◌∷◌}
 use mathlib.Core.Logic.{◌⊎◌, inl, inr, ⊎_elim}
-use mathlib.Core.Path.{◌≡◌, refl, sym, ◌∙◌}
+use mathlib.Core.Path.{◌≡◌, refl, sym, ap, ◌∙◌}
+use native.Mathlib.Omega.{arith}
+use borrow.Author.Tests.{ne_eqb}
+use lib.Dec.{eqb}
+use lib.ListN.{replicate}
 use Rattle.format.specs.declared.Kind.{Kind}
 use Rattle.format.specs.declared.Kind.TheVariants as of
-use Rattle.format.specs.Node.{kind, kind_of, kind_number, of_kind}
+use Rattle.format.specs.Bytes.{le, sum_below}
+use Rattle.format.specs.Node.{kind, kind_of, kind_number, field, table_start, of_kind, has_no_bitmap, no_bitmap}
 use Rattle.format.specs.Answer.{takes_scratch}
 use Rattle.format.specs.Accepted.{Shares, Carries, Nests, Inner}
 use Rattle.format.specs.Accepted as is
 use Rattle.format.proofs.Accepted.{number-kind, number_of}
-use Rattle.pack.proofs.Closed.{kind_other}
+use Rattle.pack.specs.declared.Node.{Node}
+use Rattle.pack.specs.Read.{node_of}
 use Rattle.nesting.specs.Rows.{plain_list, plain_entries, by_offsets}
 use Rattle.nesting.specs.Hands.{Apart, shares}
 
@@ -51,37 +57,57 @@ shares-no e is.Shares.union = false≢true (sym e)
 
 -- ---- by its number
 
-module _ (b : List ℕ) (i : ℕ) {j : Kind} (e : j ≡ kind b i) where
-  number-at : (k : Kind) → (k ≡ of.Unknown → ⊥) → j ≡ k → kind_number b i ≡ number_of k
-  number-at k u q = number-kind b i k (sym e ∙ q) u
+-- a pack whose root has a kind of that number: what is known of a node's number is known of each number
+abbrev root-of : ℕ → List ℕ
+root-of n = n ∷ replicate 19 0
 
-  pub takes_yes : (j ≡ of.Runs) ⊎ ((j ≡ of.Nested32) ⊎ (j ≡ of.Nested64)) → true ≡ takes_scratch b i
-  unfolding takes_scratch of_kind
+root-start : (n : ℕ) → table_start (root-of n) ≡ 0
+unfolding table_start le sum_below
+root-start n = refl
+
+root-number : (n : ℕ) → kind_number (root-of n) 0 ≡ n
+unfolding kind_number field le sum_below
+root-number n = rw (root-start n) (omega arith)
+
+module _ (n : ℕ) {j : Kind} (e : j ≡ kind_of n) where
+  number-at : (k : Kind) → (k ≡ of.Unknown → ⊥) → j ≡ k → n ≡ number_of k
+  unfolding kind
+  number-at k u q = sym (root-number n) ∙ number-kind (root-of n) 0 k (ap kind_of (root-number n) ∙ sym e ∙ q) u
+
+  other-at : (m : ℕ) (k : Kind) → kind_of m ≡ k → (j ≡ k → ⊥) → eqb n m ≡ false
+  other-at m k f u = ne_eqb n m (λ q. u (e ∙ ap kind_of q ∙ f))
+
+  pub takes_yes : (j ≡ of.Runs) ⊎ ((j ≡ of.Nested32) ⊎ (j ≡ of.Nested64)) → true ≡ (eqb n 9 || eqb n 13 || eqb n 14)
   takes_yes h =
       ⊎_elim (λ q. rw (number-at of.Runs (λ z. cc) q))
       (⊎_elim (λ q. rw (number-at of.Nested32 (λ z. cc) q)) (λ q. rw (number-at of.Nested64 (λ z. cc) q)))
       h
 
-  pub takes_no : (j ≡ of.Runs → ⊥) → (j ≡ of.Nested32 → ⊥) → (j ≡ of.Nested64 → ⊥) → false ≡ takes_scratch b i
-  unfolding takes_scratch kind_of
-  takes_no r m n = rw (kind_other b i 9 of.Runs refl (λ q. r (e ∙ q)), kind_other b i 13 of.Nested32 refl (λ q. m (e ∙ q)), kind_other b i 14 of.Nested64 refl (λ q. n (e ∙ q)))
+  pub takes_no : (j ≡ of.Runs → ⊥) → (j ≡ of.Nested32 → ⊥) → (j ≡ of.Nested64 → ⊥) → false ≡ (eqb n 9 || eqb n 13 || eqb n 14)
+  unfolding kind_of
+  takes_no r m o = rw (other-at 9 of.Runs refl r, other-at 13 of.Nested32 refl m, other-at 14 of.Nested64 refl o)
 
-  pub list-yes : (j ≡ of.Nested32) ⊎ (j ≡ of.Nested64) → true ≡ (of_kind 13 b i || of_kind 14 b i)
-  unfolding of_kind
+  pub list-yes : (j ≡ of.Nested32) ⊎ (j ≡ of.Nested64) → true ≡ (eqb n 13 || eqb n 14)
   list-yes h = ⊎_elim (λ q. rw (number-at of.Nested32 (λ z. cc) q)) (λ q. rw (number-at of.Nested64 (λ z. cc) q)) h
 
-  pub list-no : (j ≡ of.Nested32 → ⊥) → (j ≡ of.Nested64 → ⊥) → false ≡ (of_kind 13 b i || of_kind 14 b i)
+  pub list-no : (j ≡ of.Nested32 → ⊥) → (j ≡ of.Nested64 → ⊥) → false ≡ (eqb n 13 || eqb n 14)
   unfolding kind_of
-  list-no m n = rw (kind_other b i 13 of.Nested32 refl (λ q. m (e ∙ q)), kind_other b i 14 of.Nested64 refl (λ q. n (e ∙ q)))
+  list-no m o = rw (other-at 13 of.Nested32 refl m, other-at 14 of.Nested64 refl o)
 
-  pub entries-yes : (j ≡ of.Native) ⊎ (j ≡ of.Fixed) → true ≡ (of_kind 2 b i || of_kind 3 b i)
-  unfolding of_kind
+  pub entries-yes : (j ≡ of.Native) ⊎ (j ≡ of.Fixed) → true ≡ (eqb n 2 || eqb n 3)
   entries-yes h = ⊎_elim (λ q. rw (number-at of.Native (λ z. cc) q)) (λ q. rw (number-at of.Fixed (λ z. cc) q)) h
 
-  pub entries-no : (j ≡ of.Native → ⊥) → (j ≡ of.Fixed → ⊥) → false ≡ (of_kind 2 b i || of_kind 3 b i)
+  pub entries-no : (j ≡ of.Native → ⊥) → (j ≡ of.Fixed → ⊥) → false ≡ (eqb n 2 || eqb n 3)
   unfolding kind_of
-  entries-no m n = rw (kind_other b i 2 of.Native refl (λ q. m (e ∙ q)), kind_other b i 3 of.Fixed refl (λ q. n (e ∙ q)))
+  entries-no m o = rw (other-at 2 of.Native refl m, other-at 3 of.Fixed refl o)
 
-pub direct : (b : List ℕ) (p i : ℕ) → i ≡ suc p → (plain_list b p && plain_entries b i) ≡ by_offsets b i
-unfolding by_offsets
-direct b p i e = rw e
+-- what is told of a node's numbers is told of the node
+pub takes-is : (b : List ℕ) (i : ℕ) {n : Node} {t : Bool} → n ≡ node_of b i → t ≡ (eqb n.kind 9 || eqb n.kind 13 || eqb n.kind 14) → t ≡ takes_scratch b i
+unfolding takes_scratch of_kind
+takes-is b i e f = f ∙ ap (λ (m : Node). eqb m.kind 9 || eqb m.kind 13 || eqb m.kind 14) e
+
+-- two nodes' numbers, of which the second follows the first
+pub direct : (b : List ℕ) (p i : ℕ) → i ≡ suc p → {l n : Node} → l ≡ node_of b p → n ≡ node_of b i
+    → ((eqb l.kind 13 || eqb l.kind 14) && eqb l.validity_at no_bitmap && ((eqb n.kind 2 || eqb n.kind 3) && eqb n.validity_at no_bitmap)) ≡ by_offsets b i
+unfolding by_offsets plain_list plain_entries of_kind has_no_bitmap
+direct b p i s e f = rw (e, f, s)

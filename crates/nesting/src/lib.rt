@@ -5,11 +5,10 @@ pub mod edges;
 pub mod lists;
 pub mod top;
 
-ghost use Rattle.std.specs.Prelude.{◌≡◌, ◌<◌, length};
-ghost use Rattle.format.specs.Node.{node_count};
-ghost use Rattle.format.specs.Answer.{takes_scratch};
+ghost use Rattle.std.specs.Prelude.{◌≡◌, ◌<◌, ◌≤◌, ◌&&◌, ◌||◌, eqb, length};
+ghost use Rattle.format.specs.Node.{node_count, no_bitmap};
 ghost use Rattle.format.specs.Kept.{kept_rows};
-ghost use Rattle.nesting.specs.Rows.{plain_list, plain_entries, by_offsets, picks_in, Ready};
+ghost use Rattle.nesting.specs.Rows.{by_offsets, picks_in, Ready};
 ghost use Rattle.nesting.specs.Facts.{Ready-prop};
 ghost use Rattle.nesting.specs.Hands.{Hands};
 
@@ -17,6 +16,8 @@ pub use edges::Runs;
 use format::Kind;
 use journal::Journal;
 pub use lists::List;
+use pack::read::node_at;
+use pack::{NO_BITMAP, Node};
 use slots::Source;
 
 // What a node hands on to its children: its own rows, the runs in which it keeps a row, the child rows of its valid rows, or all rows of each child.
@@ -67,39 +68,55 @@ impl<'a> Counted<'a> {
 
 // A node of this kind has a bitmap in scratch for its child: runs and lists.
 #[tactic(auto, using(crate::proofs::Handed::takes_yes, crate::proofs::Handed::takes_no))]
-pub fn takes_scratch(journal: &Journal, i: usize) -> bool
-    requires { i < node_count journal.now.bytes.now }
-    ensures { result ≡ takes_scratch journal.now.bytes.now i }
+pub fn takes_scratch(kind: u32) -> bool
+    ensures { result ≡ (eqb kind 9 || eqb kind 13 || eqb kind 14) }
 {
     matches!(
-        journal.kind(i),
+        Kind::from(kind),
         Kind::Runs | Kind::Nested32 | Kind::Nested64
     )
 }
 
 // A list with no bitmap.
-fn plain_list(journal: &Journal, i: usize) -> bool
-    requires { i < node_count journal.now.bytes.now }
-    ensures { result ≡ plain_list journal.now.bytes.now i }
+fn plain_list(kind: u32, validity: u32) -> bool
+    ensures { result ≡ ((eqb kind 13 || eqb kind 14) && eqb validity no_bitmap) }
 {
-    matches!(journal.kind(i), Kind::Nested32 | Kind::Nested64) & journal.has_no_bitmap(i)
+    matches!(Kind::from(kind), Kind::Nested32 | Kind::Nested64) & (validity == NO_BITMAP)
 }
 
 // Entries of a width, with no bitmap.
-fn plain_entries(journal: &Journal, i: usize) -> bool
-    requires { i < node_count journal.now.bytes.now }
-    ensures { result ≡ plain_entries journal.now.bytes.now i }
+fn plain_entries(kind: u32, validity: u32) -> bool
+    ensures { result ≡ ((eqb kind 2 || eqb kind 3) && eqb validity no_bitmap) }
 {
-    matches!(journal.kind(i), Kind::Native | Kind::Fixed) & journal.has_no_bitmap(i)
+    matches!(Kind::from(kind), Kind::Native | Kind::Fixed) & (validity == NO_BITMAP)
+}
+
+// Such entries as node i under such a list as node i - 1.
+fn listed(list: Node, entries: Node) -> bool
+    ensures { result ≡ (((eqb list.kind 13 || eqb list.kind 14) && eqb list.validity_at no_bitmap)
+        && ((eqb entries.kind 2 || eqb entries.kind 3) && eqb entries.validity_at no_bitmap)) }
+{
+    plain_list(list.kind, list.validity_at) & plain_entries(entries.kind, entries.validity_at)
 }
 
 // Node i is such entries under such a list: its rows are copied by the list's own offsets, so it takes no bitmap in scratch (why, docs/DECISIONS.md, 71).
-pub fn by_offsets(journal: &Journal, i: usize) -> bool
+pub fn by_offsets(pack: &[u8], i: usize) -> bool
+    requires { (i < node_count pack.now) × (node_count pack.now ≤ 64) }
+    ensures { result ≡ by_offsets pack.now i }
+{
+    if i == 0 {
+        return false;
+    }
+    listed(node_at(pack, i as u32 - 1), node_at(pack, i as u32))
+}
+
+// The same of an accepted journal, whose nodes are read without a test of each byte's place.
+pub fn copied_by_offsets(journal: &Journal, i: usize) -> bool
     requires { i < node_count journal.now.bytes.now }
     ensures { result ≡ by_offsets journal.now.bytes.now i }
 {
     if i == 0 {
         return false;
     }
-    plain_list(journal, i - 1) & plain_entries(journal, i)
+    listed(journal.node(i - 1), journal.node(i))
 }

@@ -1,7 +1,6 @@
 -- `nesting::by_offsets` meets its contract: the root has no list before it. Assumes nothing.
 use Prim.Native.Nat.{◌-◌}
-use mathlib.Core.Bool.{◌&&◌}
-use mathlib.Core.Path.{ap₂, ◌∙◌}
+use mathlib.Core.Path.{◌∙◌}
 use native.Mathlib.Omega.{arith}
 use Rattle.nesting.specs.Rows.{by_offsets}
 use Rattle.nesting.proofs.Handed.{direct}
@@ -12,4 +11,4 @@ unfolding by_offsets
 returns-then-i-eq0 c = rw c.if-i-eq0.true
 
 pub returns : goal.returns
-returns c = ap₂ ◌&&◌ c.plain_list.ensures c.plain_entries.ensures ∙ direct _ (c.args.i - 1) c.args.i (omega (arith, c.if-i-eq0.false))
+returns c = c.listed.ensures ∙ direct _ (c.args.i - 1) c.args.i (omega (arith, c.if-i-eq0.false)) c.node_at.ensures c.node_at-2.ensures
