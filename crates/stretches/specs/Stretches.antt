@@ -1,5 +1,5 @@
 -- Stretches of rows that are alike; what was told last of each node; where a list's rows were looked for. Assumes nothing.
-use Rattle.std.specs.Prelude.{ℕ, suc, ◌-◌, ◌≤◌, ◌<◌, Bool, true, false, List, ◌≡◌, slice_index_or}
+use Rattle.std.specs.Prelude.{ℕ, suc, ◌-◌, ◌≤◌, ◌<◌, Bool, true, false, List, ◌≡◌, slice_index_or, slice_set}
 use Rattle.format.specs.Node.{node_count, rows, skip, valid, first_number, run_end}
 use Rattle.format.specs.Slots.{All}
 use Rattle.nesting.specs.declared.Counted.{Counted}
@@ -7,6 +7,7 @@ use Rattle.nesting.specs.Rows.{keeps, picks_in}
 use Rattle.stretches.specs.declared.Place.{Place}
 use Rattle.stretches.specs.declared.Place.TheVariants.{Row, Gap}
 use Rattle.stretches.specs.declared.Seen.{Seen}
+use Rattle.stretches.specs.declared.Stretch.{Stretch}
 
 -- of n rows, row r and those after it up to e are alike: all pass the test, or none
 pub record Alike (p : ℕ → Bool) (r n : ℕ) (t : Bool) (e : ℕ) : Type 0 where
@@ -32,6 +33,10 @@ pub record Holds (p : ℕ → Bool) (n : ℕ) (s : Seen) : Type 0 where
 -- nothing was told
 abbrev pub unseen : Seen
 unseen = record { from = 0; stretch = record { kept = false; end = 0 }; row = 0 }
+
+-- what is kept in mind of node i replaced: its rows from `from` on are such a stretch
+abbrev pub noted : List Seen → ℕ → ℕ → Stretch → ℕ → List Seen
+noted seen i from stretch row = slice_set seen i (record { from = from; stretch = stretch; row = row })
 
 -- what was told last of each node
 pub record Recalled (b root : List ℕ) (seen : List Seen) : Type 0 where

@@ -3,7 +3,7 @@
 ghost use Rattle.std.specs.Prelude.{◌≡◌, suc, ◌<◌, ◌≤◌};
 ghost use Rattle.format.specs.Node.{node_count, rows};
 ghost use Rattle.nesting.specs.Rows.{picks_in};
-ghost use Rattle.stretches.specs.Stretches.{bytes_in, AlikeRows, Recalled};
+ghost use Rattle.stretches.specs.Stretches.{bytes_in, AlikeRows, Recalled, noted};
 
 use crate::parts::{list_place, picked, runs_past, valid_to};
 use crate::{Place, Seen, Stretch};
@@ -37,11 +37,13 @@ impl<'a> Stretches<'a> {
         }
     }
 
-    // Keeps in mind what was told of a node, and a row of the list above it to look from.
+    // Keeps in mind what was told of a node, and a row of the list above it to look from; what is in mind of the other nodes stays.
     fn note(&mut self, node: usize, from: usize, stretch: Stretch, row: usize) -> Stretch
         requires inside { node < node_count (bytes_in self.old.counted) }
         requires alike { AlikeRows self.old.counted node from stretch.kept stretch.end }
         ensures same { self.new.counted ≡ self.old.counted }
+        ensures told { result ≡ stretch }
+        ensures noted { self.new.seen ≡ noted self.old.seen node from stretch row }
         ensures alike { AlikeRows self.old.counted node from result.kept result.end }
     {
         self.seen[node] = Seen { from, stretch, row };
