@@ -1,9 +1,9 @@
 // Rows asked in order are told stretch by stretch: what was told last of each node is kept in mind, so that on a walk over a node's rows no row above is
 // looked at twice, however deep the node lies.
-ghost use Rattle.std.specs.Prelude.{◌≡◌, suc, ◌<◌, ◌≤◌};
+ghost use Rattle.std.specs.Prelude.{◌≡◌, suc, ◌<◌, ◌≤◌, replicate};
 ghost use Rattle.format.specs.Node.{node_count, rows};
 ghost use Rattle.nesting.specs.Rows.{picks_in};
-ghost use Rattle.stretches.specs.Stretches.{bytes_in, AlikeRows, Recalled, noted};
+ghost use Rattle.stretches.specs.Stretches.{bytes_in, AlikeRows, Recalled, unseen, noted};
 
 use crate::parts::{list_place, picked, runs_past, valid_to};
 use crate::{Place, Seen, Stretch};
@@ -20,7 +20,8 @@ pub struct Stretches<'a> {
 impl<'a> Stretches<'a> {
     // Nothing was told yet.
     pub fn new(counted: Counted<'a>) -> Stretches<'a>
-        ensures { result.counted ≡ counted.entry }
+        ensures counted { result.counted ≡ counted.entry }
+        ensures nothing { result.seen ≡ replicate 64 unseen }
     {
         let stretch = Stretch {
             kept: false,

@@ -10,7 +10,7 @@ use Rattle.kept_data.proofs.data.null_by_stretches.Goals as goal
 use Rattle.kept_data.proofs.data.null_by_stretches.Goals.{else-not-bit-via-then-not-bit+else-told, else-not-bit-via-else-not-bit}
 
 pub loop-w-init : goal.loop-w-init
-loop-w-init c = let z : min (rows c.args.counted.journal.now.bytes.now c.args.node) 0 ≡ 0 = omega arith in (c.new-stretches.ensures, rw z (any-start _))
+loop-w-init c = let z : min (rows c.args.counted.journal.now.bytes.now c.args.node) 0 ≡ 0 = omega arith in (c.new-stretches.ensures.counted, rw z (any-start _))
 
 pub overflow_add-first : goal.overflow_add-first
 overflow_add-first c =
