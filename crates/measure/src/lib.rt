@@ -45,6 +45,7 @@ fn runs_kept(counted: Counted, i: usize, of: Kind) -> usize
     requires known { (i < node_count counted.journal.now.bytes.now) × (counted.known ≡ node_count counted.journal.now.bytes.now) }
     requires of_value { of ≡ kind counted.journal.now.bytes.now i }
     ensures kept { kind counted.entry.journal.now.bytes.now i ≡ Runs → result ≡ length (kept_rows counted.entry.journal.now.bytes.now (picks_in counted.entry.source) (suc i)) }
+    ensures none { (kind counted.entry.journal.now.bytes.now i ≡ Runs → ⊥) → result ≡ 0 }
     ensures few { result ≤ 1_048_576 }
 {
     match of {

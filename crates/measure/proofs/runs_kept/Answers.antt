@@ -14,3 +14,6 @@ pub returns-in-Runs-clause-few : goal.returns-in-Runs-clause-few
 returns-in-Runs-clause-few c =
     let h = run-child c.args.counted.ready c.requires.known.0 (sym c.requires.of_value ∙ c.in-Runs.is) in
     omega (arith, c.kept.ensures, kept-few c.args.counted.ready h)
+
+pub returns-in-Runs-clause-none : goal.returns-in-Runs-clause-none
+returns-in-Runs-clause-none c = λ f. absurd (f (sym c.requires.of_value ∙ c.in-Runs.is))
