@@ -24,7 +24,8 @@ struct Seen {
 }
 
 // Where a list has a child row: in a valid row; or in none, nor those after it up to an end, and the row to look from next.
-enum Place {
+#[derive(Clone, Copy)]
+pub enum Place {
     Row(usize),
     Gap(usize, usize),
 }
