@@ -1,2 +1,2 @@
 -- Laws of counts of kept rows.
-mod Listed
+pub mod Listed

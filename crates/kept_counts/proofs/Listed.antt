@@ -1,9 +1,10 @@
 -- A list without a bitmap: its kept rows hand on what lies between their offsets. Assumes nothing.
-use Prim.Native.Nat.{ℕ, suc, ◌-◌, ◌≤◌, ◌<◌}
-use mathlib.Core.Bool.{true}
+use Prim.Native.Nat.{ℕ, suc, ◌-◌, ◌*◌, ◌≤◌, ◌<◌}
+use mathlib.Core.Bool.{Bool, true, false}
 use mathlib.Core.List as std
 use mathlib.Core.List.{[], ◌∷◌, map}
 use mathlib.Core.Path.{◌≡◌, refl, sym, ap, ◌∙◌}
+use mir.Val.{bool_byte}
 use native.Mathlib.Omega.{arith}
 use lib.ListN.{length, length-append}
 use Rattle.format.specs.Bytes.{join}
@@ -52,3 +53,12 @@ module _ (counted : Counted) (list : List) (here : list.journal.now.bytes.now �
 
   pub listed-few : length (kept_rows (bytes_in counted) (picks_in counted.source) (suc list.node)) ≤ 1_048_576
   listed-few = omega (arith, kept-few counted (suc list.node) (child-in list-at), child-few list-at)
+
+-- a list that keeps the root's rows hands on their child rows
+pub listed-count : (root : std.List ℕ) {b : std.List ℕ} {w p n : ℕ} → AtList b w p → ((rs : std.List ℕ) → kept_rows b rs p ≡ rs) → n ≡ length (kept_spans w b p root) → n ≡ length (kept_rows b root (suc p))
+listed-count root {b} {w} {p} a s e = e ∙ ap length (sym (child-kept a root ∙ ap (kept_spans w b p) (s root)))
+
+-- a stretch has no more kept rows than rows
+pub stretch-fits : (t : Bool) (d : ℕ) → d * bool_byte t ≤ d
+stretch-fits true d = omega arith
+stretch-fits false d = omega arith

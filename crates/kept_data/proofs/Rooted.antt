@@ -9,15 +9,17 @@ use native.Mathlib.Omega.{arith}
 use borrow.Author.Tests.{eq-eqb, eqb-true}
 use lib.Bits.{bit_and}
 use lib.Dec.{eqb}
+use lib.ListN.{length}
 use Rattle.std.specs.List.{list_any, range_with_len}
-use Rattle.format.specs.Bytes.{any_below, chosen, one, bit_in}
+use Rattle.format.specs.Bytes.{any_below, chosen, one, bit_in, join}
 use Rattle.format.specs.Slots.{word_from, All}
-use Rattle.format.specs.Node.{valid}
-use Rattle.format.specs.Kept.{kept_rows}
+use Rattle.format.specs.Node.{valid, second_length}
+use Rattle.format.specs.Kept.{kept_rows, own_bytes}
 use Rattle.format.specs.Write.{any_null}
 use Rattle.format.proofs.Laws.{any_none}
 use Rattle.format.proofs.SlotLaws.{all_none, all_join, all-less}
 use Rattle.format.proofs.WordLaws.{from-and, from-bit, from-ext, from-shift}
+use Rattle.nesting.specs.Rows.{AtRoot}
 use Rattle.kept_data.proofs.Nulls.{null-any}
 
 -- Nulls by words: p picks, q says valid
@@ -111,3 +113,12 @@ module _ (p : ℕ → Bool) (s : List ℕ) (first : ℕ) where
 
   pub any-lost : (n : ℕ) {len : ℕ} → ((j : ℕ) → len ≤ j → p j ≡ false) → len ≤ 64 * n → list_any differs (range_with_len 0 n) ≡ any_below lost len
   any-lost n past l = words-lost past n 0 (omega arith) (all_none (omega arith))
+
+pub null-end : (p : ℕ → Bool) (n k : ℕ) → n ≤ k → All p false 0 k → false ≡ any_below p n
+null-end p n k h all = sym (nowhere p n (all-less h all))
+
+-- the bytes of a node at the root are those of the root's rows
+pub root-bytes : {b : List ℕ} {node : ℕ} {t : Bool} (w : ℕ) (root : List ℕ) (n : ℕ) → AtRoot b node t → t ≡ true
+    → (n ≡ length (join (map (own_bytes w b node) root))) × (n ≤ second_length b node)
+    → (n ≡ length (join (map (own_bytes w b node) (kept_rows b root node)))) × (n ≤ second_length b node)
+root-bytes {b} {node} w root n a e f = (f.0 ∙ ap (λ (rs : List ℕ). length (join (map (own_bytes w b node) rs))) (sym (a.same e root)), f.1)

@@ -5,6 +5,7 @@ use mathlib.Core.List.{List, [], ◌∷◌, map}
 use mathlib.Core.Path.{◌≡◌, refl, sym, ap, ◌∙◌}
 use mathlib.Core.Logic.{dite}
 use native.Mathlib.Decide.{dec_le}
+use native.Mathlib.Numerals.{add-one}
 use native.Mathlib.Nat.{zero-add, mul-add, mul-suc, mul-le-mul_left}
 use native.Mathlib.Omega.{arith}
 use lib.ListN.{length, length-append, length-take, length-drop}
@@ -26,12 +27,13 @@ use Rattle.spans.proofs.Spanned.{picks-le}
 use Rattle.spans.proofs.ByWords.{Laid, passed}
 use Rattle.stretches.specs.Stretches.{bytes_in, kept_in}
 
-module _ {b : List ℕ} (sound : Sound b) {node : ℕ} (h : node < node_count b) {w first : ℕ} (e : first ≡ first_at b node + w * skip b node) (o : Offsets w b node) where
-  -- a row's own bytes are as many as its offsets say
-  own-length : (r : ℕ) → r < rows b node → length (own_bytes w b node r) ≡ first_number w b node (suc r) - first_number w b node r
-  unfolding own_bytes bytes_at
-  own-length r l = simp (length-take, length-drop) (omega (arith, o.rise r l, o.inside (suc r) l, o.data_lies, sound.shape.table))
+-- a row's own bytes are as many as its offsets say
+pub own-length : {b : List ℕ} {i w : ℕ} → Sound b → Offsets w b i → (r : ℕ) → r < rows b i → length (own_bytes w b i r) ≡ first_number w b i (r + 1) - first_number w b i r
+unfolding own_bytes bytes_at
+own-length s o r h =
+    rw (add-one r) (simp (length-take, length-drop) (omega (arith, o.rise r h, o.inside (suc r) h, o.data_lies, s.shape.table)))
 
+module _ {b : List ℕ} (sound : Sound b) {node : ℕ} (h : node < node_count b) {w first : ℕ} (e : first ≡ first_at b node + w * skip b node) (o : Offsets w b node) where
   -- where its offset stands, and what it is
   pub offset-lies : (r : ℕ) → r ≤ rows b node → first + w * r + w ≤ length b
   unfolding places
@@ -70,7 +72,7 @@ module _ {b : List ℕ} (sound : Sound b) {node : ℕ} (h : node < node_count b)
   unfolding spans join
   spans-own [] none = refl
   spans-own (r ∷ rs) (more l g) =
-      let one : offset_from w b first (suc r) - offset_from w b first r ≡ length (own_bytes w b node r) = rw (offset-is (suc r), offset-is r) (sym (own-length r l)) in
+      let one : offset_from w b first (suc r) - offset_from w b first r ≡ length (own_bytes w b node r) = rw (offset-is (suc r), offset-is r, ← add-one r) (sym (own-length sound o r l)) in
       rw (length-append (own_bytes w b node r), one, spans-own rs g)
 
   -- picked rows have no more than the node

@@ -1,3 +1,4 @@
 -- Laws of the child rows of lists as a bitmap.
-mod Spans
+pub mod Spans
+pub mod Parts
 mod Words

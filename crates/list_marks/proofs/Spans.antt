@@ -29,6 +29,12 @@ pub spans-none : (o : ℕ → ℕ) (rs : List ℕ) (x : ℕ) → rs ≡ [] → i
 unfolding in_spans
 spans-none o rs x e = ap (λ (q : List ℕ). in_spans o q x) e
 
+-- by offsets that are the same
+pub spans-as : (o u : ℕ → ℕ) → ((r : ℕ) → o r ≡ u r) → (rs : List ℕ) (x : ℕ) → in_spans o rs x ≡ in_spans u rs x
+unfolding in_spans
+spans-as o u e [] x = refl
+spans-as o u e (r ∷ rs) x = rw (e r, e (suc r), spans-as o u e rs x)
+
 -- no row has child rows from the last offset on
 pub spans-past : (o : ℕ → ℕ) (len top x : ℕ) → ((r : ℕ) → r ≤ len → o r ≤ top) → top ≤ x → (rs : List ℕ) → Below len rs → in_spans o rs x ≡ false
 unfolding in_spans

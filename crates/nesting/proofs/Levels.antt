@@ -1,7 +1,7 @@
 -- The climb from a node to the one whose rows it keeps. Assumes nothing.
 use Prim.Native.Nat.{ℕ, ◌<◌}
 use mathlib.Core.List.{List}
-use mathlib.Core.Path.{refl, sym, ap, ◌∙◌}
+use mathlib.Core.Path.{◌≡◌, refl, sym, ap, ◌∙◌}
 use native.Mathlib.Omega.{arith}
 use borrow.Author.Tests.{eqb-true}
 use lib.Dec.{eqb}
@@ -9,11 +9,15 @@ use Rattle.format.specs.Node.{node_count, kind, rows, parent}
 use Rattle.format.specs.Kept.{kept_rows}
 use Rattle.format.specs.Accepted.{Sound, Shares}
 use Rattle.format.proofs.Laws.{kept-root}
-use Rattle.nesting.specs.Rows.{AtRoot, Level}
+use Rattle.nesting.specs.Rows.{AtRoot, Level, Top}
 use Rattle.nesting.proofs.Tree.{kept-shared}
 
 pub level_all : (b : List ℕ) (node : ℕ) → node < node_count b → Level b node node
 level_all b node h = record { inside = h; low = omega arith; over = λ f. absurd (f refl); same = λ root. refl; long = refl }
+
+-- above the root is nothing
+pub top-root : {b : List ℕ} {node i : ℕ} → Level b node i → i ≡ 0 → Top b node i
+top-root l e = record { level = l; last = λ some. absurd (omega arith) }
 
 pub level-root : {b : List ℕ} {node i : ℕ} → Level b node i → AtRoot b node (eqb i 0)
 level-root {b} {node} {i} l =

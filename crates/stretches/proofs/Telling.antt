@@ -1,12 +1,13 @@
 -- A node's stretches by its parent's: what each way of telling them asks and gives. Assumes nothing.
-use Prim.Native.Nat.{ℕ, zero, suc, ◌≤◌, ◌<◌, min}
-use mathlib.Core.Bool.{Bool, true, false, ◌&&◌, true≢false}
+use Prim.Native.Nat.{ℕ, zero, suc, ◌-◌, ◌≤◌, ◌<◌, min}
+use mathlib.Core.Bool.{Bool, true, false, ◌&&◌, ◌||◌, true≢false, or-true}
 use mathlib.Core.List.{List}
 use mathlib.Core.Path.{◌≡◌, refl, sym, ap, ◌∙◌}
 use mathlib.Core.Logic.{dite}
 use native.Mathlib.Decide.{dec_le, ℕ_discrete}
 use native.Mathlib.Omega.{arith}
-use lib.Dec.{ltb}
+use borrow.Author.Tests.{eq-eqb}
+use lib.Dec.{eqb, ltb}
 use lib.ListN.{length}
 use Rattle.format.specs.Node.{node_count, kind, rows, valid, first_number, run_start, run_end, parent}
 use Rattle.format.specs.Slots.{All, Sought}
@@ -23,6 +24,16 @@ use Rattle.nesting.proofs.Tree.{run-child, list-child}
 use Rattle.stretches.specs.Stretches.{Alike, Ended, InRow, InNone}
 use Rattle.stretches.proofs.Keeping.{between-hit, between-miss, between_join, between-less, between-sub, keeps-root, keeps-shared, keeps-carried, keeps-run, keeps-none, keeps-rows}
 use Rattle.stretches.proofs.Minding.{alike_of}
+
+-- what is left gets less, and a number that is neither of two is not one of them
+pub closer : {x e hi : ℕ} → x < e → x < hi → hi - e < hi - x
+closer f g = omega arith
+
+pub neither : {k : ℕ} → k ≡ 10 → (eqb k 10 || eqb k 11) ≡ false → ⊥
+neither {k} e q = true≢false (sym (ap (◌|| eqb k 11) (eq-eqb k 10 e)) ∙ q)
+
+pub nor : {k : ℕ} → k ≡ 11 → (eqb k 10 || eqb k 11) ≡ false → ⊥
+nor {k} e q = true≢false (sym (ap (eqb k 10 ||◌) (eq-eqb k 11 e) ∙ or-true (eqb k 10)) ∙ q)
 
 -- ---- the root
 
@@ -66,7 +77,7 @@ next-told b root q = alike_of (ap (rows b) (sym q)) (λ j _. ap (λ (i : ℕ). k
 -- ---- a run
 
 -- run ends rise
-run-rises : {b : List ℕ} {p : ℕ} → AtRuns b p → (j : ℕ) → j < rows b (suc p) → run_start b p j < run_end b p j
+pub run-rises : {b : List ℕ} {p : ℕ} → AtRuns b p → (j : ℕ) → j < rows b (suc p) → run_start b p j < run_end b p j
 run-rises {p = p} a j l = (a.sound.run_ends p a.inside a.is_runs).rise j l
 
 start-after : (b : List ℕ) (p : ℕ) → ((j : ℕ) → j < rows b (suc p) → run_start b p j < run_end b p j) → (r j : ℕ) → r < j → j ≤ rows b (suc p) → run_end b p r ≤ run_start b p j
