@@ -9,8 +9,8 @@ ghost use Rattle.format.specs.Words.{low_bits, word_of};
 ghost use Rattle.format.specs.Put.{Wrote};
 ghost use Rattle.format.specs.Mask.{by_route};
 ghost use Rattle.predicate.specs.Entries.{picked};
-ghost use Rattle.predicate.specs.Selection.{selected, reach};
-ghost use Rattle.bitmaps.specs.Push.{Room, Packs, Adds, bit_from, bits_of, compressed};
+ghost use Rattle.predicate.specs.Selection.{selected, reach, Sourced};
+ghost use Rattle.bitmaps.specs.Push.{Room, Packs, Adds, bit_from, bits_of, Compressed};
 
 use bits::Packer;
 use predicate::{Block, Blocks, Selection};
@@ -207,15 +207,16 @@ pub fn by_route(length: usize, count: usize, stored: bool) -> bool
 
 // The source whose words compress takes, where `count` rows are kept and the column goes by it.
 fn compressed<'a>(sel: Selection<'a>, count: usize) -> Option<Source<'a>>
-    ensures { result ≡ compressed sel.entry count }
+    requires sourced { Sourced sel }
+    ensures { Compressed sel.entry count result }
 {
-    let (source, stored) = match sel {
+    let (bytes, bits, stored) = match sel {
         Selection::Nothing | Selection::Everything(_) => return None,
-        Selection::Words(source) => (source, false),
-        Selection::Runs(list) => (list.source, false),
-        Selection::Rows(list) => (list.source, true),
+        Selection::Words(source) => (source.bytes, source.bits, false),
+        Selection::Runs(list) => (list.bytes, list.bits, false),
+        Selection::Rows(list) => (list.bytes, list.bits, true),
     };
-    (!by_route(source.bits.len, count, stored)).then_some(source)
+    (!by_route(bits.len, count, stored)).then_some(Source { bytes, bits })
 }
 
 // The bits of the kept rows, row 0 at bit `from` of the values, where `count` rows are kept: by compress, or by the selection's blocks.
@@ -227,6 +228,7 @@ pub fn filter_bits(
     sel: Selection,
     count: usize,
 ) -> usize
+    requires sourced { Sourced sel }
     requires len_bound { from + reach sel < 2 ^ 61 }
     requires len_in_bounds { at + length (packed (map (bit_from values.now from) (selected sel))) ≤ length out.old }
     ensures { Wrote out.old at (packed (map (bit_from values.now from) (selected sel.entry))) out.new result }

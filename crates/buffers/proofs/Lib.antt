@@ -1,2 +1,3 @@
--- The laws of a buffer behind the body.
+-- The laws of a buffer behind the body, and of own bytes row by row.
 pub mod PutLaws
+pub mod Cuts

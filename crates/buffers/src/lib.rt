@@ -11,7 +11,7 @@ ghost use Rattle.texts.specs.Own.{Have as HaveOwn, own_of};
 ghost use Rattle.list_columns.specs.Lists.{Have as HaveLists, starts};
 ghost use Rattle.bitmaps.specs.Push.{bit_from};
 ghost use Rattle.runs.specs.Ends.{kept_ends};
-ghost use Rattle.predicate.specs.Selection.{reach, selected};
+ghost use Rattle.predicate.specs.Selection.{reach, selected, Sourced};
 ghost use Rattle.buffers.specs.Place.{appended, Puts};
 
 use gather::Column;
@@ -87,6 +87,7 @@ pub fn put_bits(
     sel: Selection,
     count: usize,
 ) -> Placed
+    requires sourced { Sourced sel }
     requires len_bound { from + reach sel < 2 ^ 61 }
     requires room { at + length (appended at (holds (packed (map (bit_from journal.now from) (selected sel))))) ≤ length out.old }
     ensures { Puts 0 (holds (packed (map (bit_from journal.now from) (selected sel.entry)))) out.old at out.new result }
@@ -98,7 +99,8 @@ pub fn put_bits(
 
 // The run ends of the runs that keep a row.
 pub fn put_run_ends(out: &mut [u8], at: usize, runs: RunEnds, sel: Selection) -> Placed
-    requires { at + length (appended at (holds (kept_ends runs (selected sel)))) ≤ length out.old }
+    requires sourced { Sourced sel }
+    requires room { at + length (appended at (holds (kept_ends runs (selected sel)))) ≤ length out.old }
     ensures { Puts 0 (holds (kept_ends runs.entry (selected sel.entry))) out.old at out.new result }
 {
     let start = append::fields::pad(out, at);

@@ -4,3 +4,4 @@ pub mod Fits
 pub mod Sizes
 pub mod Inside
 pub mod Counts
+pub mod Order

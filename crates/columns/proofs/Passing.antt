@@ -20,6 +20,7 @@ use Rattle.predicate.specs.declared.Blocks.{Blocks}
 use Rattle.predicate.specs.Selection.{reach}
 use Rattle.predicate.specs.Blocks.{kept_by, picks_on, rows_left, InStep, Ran}
 use Rattle.predicate.proofs.Picks.{picks-run, picks-upto}
+use Rattle.predicate.proofs.Steps.{left-upto}
 use Rattle.append.specs.Cells.{word_rows, Among}
 use Rattle.append.proofs.CellLaws.{words-none, words_last}
 use Rattle.columns.specs.Words.{Ahead, Passed}
@@ -112,7 +113,4 @@ pass-done {t = t} is same k =
 pub walk-on : {f : List ℕ → List ℕ} (cut : Cuts f) {sel : Selection} {old : List ℕ} {at : ℕ} {new : List ℕ} {here : ℕ} {s : Blocks} → Walked f sel old at new here s
     → {last : List ℕ} {next : ℕ} {t : Blocks} → Passed f s new here last next t → Walked f sel old at last next t
 walk-on {f} cut {s = s} w {t = t} q =
-    let high : t.place ≤ reach s.sel = rw (← q.same) q.step.inside in
-    let rest : rows_left s ≡ picks_from (kept_by s.sel) (t.place - s.place) s.place ++ rows_left t =
-    rw q.same (picks-upto (kept_by s.sel) (reach s.sel) s.place t.place q.on high) in
-    record { same = q.same ∙ w.same; step = q.step; left = less w.left (ap f rest ∙ cut.parts _ _) q.wrote }
+    record { same = q.same ∙ w.same; step = q.step; left = less w.left (ap f (left-upto s t q.same q.on q.step) ∙ cut.parts _ _) q.wrote }

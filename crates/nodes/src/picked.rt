@@ -2,7 +2,8 @@
 ghost use Rattle.std.specs.Prelude.{◌≡◌, ◌<◌, ◌≤◌};
 ghost use Rattle.format.specs.Node.{node_count, rows, kind};
 ghost use Rattle.pack.specs.Read.{node_of};
-ghost use Rattle.predicate.specs.Selection.{reach};
+ghost use Rattle.predicate.specs.Selection.{reach, Sourced};
+ghost use Rattle.predicate.proofs.Props.{sourced_prop};
 
 use format::Kind;
 use journal::Journal;
@@ -16,6 +17,7 @@ pub struct Picked<'a> {
     pub index: usize,
     pub sel: Selection<'a>,
     pub ghost inside: { index < node_count journal.now.bytes.now },
+    pub ghost sourced: { Sourced sel } by { sourced_prop sel },
     pub ghost short: { reach sel ≤ rows journal.now.bytes.now index },
 }
 

@@ -1,5 +1,5 @@
 -- A route's selection has the rows that the source picks, where the route is that of its count; and so has its list. Assumes nothing.
-use Rattle.std.proofs.Common.{◌≡◌, ℕ, zero, suc, ◌+◌, ◌*◌, ◌≤◌, Bool, true, false, cond, ◌||◌, eqb, ltb, List, [], ◌∷◌, length, sym, refl, ap, ◌∙◌, add-one, arith, eqb-true}
+use Rattle.std.proofs.Common.{◌≡◌, ℕ, zero, suc, ◌+◌, ◌*◌, ◌≤◌, Bool, true, false, cond, ◌||◌, eqb, ltb, List, [], ◌∷◌, length, sym, refl, ap, ap₂, ◌∙◌, add-one, arith, eqb-true}
 use Rattle.std.specs.Prelude.{Option, Some, None}
 use denote.Ref.{Bor}
 use Rattle.format.specs.declared.Route.{Route}
@@ -11,8 +11,8 @@ use Rattle.slots.specs.declared.Source.{Source}
 use Rattle.slots.specs.Slot.{slot_in}
 use Rattle.predicate.specs.declared.Selection.{Selection}
 use Rattle.predicate.specs.declared.Selection.TheVariants.{Nothing, Everything, Words, Runs, Rows}
-use Rattle.predicate.specs.Entries.{picked}
-use Rattle.predicate.specs.Selection.{selected, reach, run_rows, rows_of, Selects}
+use Rattle.predicate.specs.Entries.{picks_by, picked}
+use Rattle.predicate.specs.Selection.{selected, reach, Sourced, run_rows, rows_of, Selects}
 
 -- ---- by the count
 
@@ -45,11 +45,11 @@ no-picks n c e h = go (eqb n 0) refl e
 -- row numbers have the picked rows by any count
 pub rows-picked : (source : Source) (list : Option (Bor (List ℕ))) (sel : Selection) → Selects route.Indices source list sel → selected sel ≡ picked source
 rows-picked source None sel s = ap selected s
-rows-picked source (Some list) sel s = ap selected s.1 ∙ ap picked s.2
+rows-picked source (Some list) sel s = ap selected s.1 ∙ ap₂ (λ (b : Bor (List ℕ)) c. picks_by b.now c) s.2 s.3
 
 by_runs : (source : Source) (list : Option (Bor (List ℕ))) (sel : Selection) → Selects route.Slices source list sel → selected sel ≡ picked source
 by_runs source None sel s = ap selected s
-by_runs source (Some list) sel s = ap selected s.1 ∙ ap picked s.2
+by_runs source (Some list) sel s = ap selected s.1 ∙ ap₂ (λ (b : Bor (List ℕ)) c. picks_by b.now c) s.2 s.3
 
 -- where the route is that of the count, its selection has the picked rows
 pub selects-picked : (source : Source) (list : Option (Bor (List ℕ))) (sel : Selection) {c : ℕ} → c ≡ length (picked source) → Selects (route_of source.bits.len c) source list sel → selected sel ≡ picked source
@@ -68,9 +68,18 @@ pub reach-of : (r : Route) (source : Source) (list : Option (Bor (List ℕ))) (s
 reach-of route.None source list sel s = rw s (omega arith)
 reach-of route.All source list sel s = rw s (omega arith)
 reach-of route.Slices source None sel s = rw s (omega arith)
-reach-of route.Slices source (Some list) sel s = rw (s.1, s.2) (omega arith)
+reach-of route.Slices source (Some list) sel s = rw (s.1, s.3) (omega arith)
 reach-of route.Indices source None sel s = rw s (omega arith)
-reach-of route.Indices source (Some list) sel s = rw (s.1, s.2) (omega arith)
+reach-of route.Indices source (Some list) sel s = rw (s.1, s.3) (omega arith)
+
+-- a route's selection over a source has its bits in the slice
+pub sourced-of : (r : Route) (source : Source) (list : Option (Bor (List ℕ))) (sel : Selection) → Selects r source list sel → Sourced sel
+sourced-of route.None source list sel s = rw s tt
+sourced-of route.All source list sel s = rw s tt
+sourced-of route.Slices source None sel s = rw s tt
+sourced-of route.Slices source (Some list) sel s = rw (s.1, s.2, s.3) source.lies
+sourced-of route.Indices source None sel s = rw s tt
+sourced-of route.Indices source (Some list) sel s = rw (s.1, s.2, s.3) source.lies
 
 -- ---- by every route the same rows
 
@@ -83,5 +92,5 @@ pub same_rows : (sel : Selection) → rows_of sel ≡ selected sel
 same_rows Nothing = refl
 same_rows (Everything n) = refl
 same_rows (Words source) = refl
-same_rows (Runs stored) = rw stored.holds (run-rows _ ∙ runs-picks (slot_in stored.source) stored.source.bits.len 0)
+same_rows (Runs stored) = rw stored.holds (run-rows _ ∙ runs-picks _ stored.bits.len 0)
 same_rows (Rows stored) = stored.holds

@@ -3,3 +3,4 @@ pub mod Picks
 pub mod Steps
 pub mod WordRuns
 pub mod Holding
+pub mod Props

@@ -1,27 +1,25 @@
 -- Each case of a selection gives its next block, and what is left stays in step with its source. Assumes nothing.
-use Rattle.std.proofs.Common.{◌≡◌, ℕ, ◌+◌, ◌-◌, ◌<◌, ◌≤◌, Bool, true, false, List, [], ◌∷◌, ◌++◌, length, get_or, sym, refl, ap, ◌∙◌, append-nil, take_all, arith}
+use Rattle.std.proofs.Common.{◌≡◌, ℕ, ◌+◌, ◌-◌, ◌<◌, ◌≤◌, Bool, true, false, List, [], ◌∷◌, ◌++◌, length, get_or, drop, sym, refl, ap, ◌∙◌, append-nil, take_all, length-drop, arith}
 use Rattle.std.specs.Prelude.{Some}
 use native.Mathlib.Nat.{sub-zero}
 use Rattle.format.specs.Bytes.{bytes_at}
-use Rattle.format.specs.Rows.{set_rows, Below}
-use Rattle.format.specs.Slots.{after, word_from, runs_from, count_up, starts_and_ends, FirstRun}
+use Rattle.format.specs.Rows.{set_rows, Below, none}
+use Rattle.format.specs.Slots.{after, word_from, picks_from, runs_from, count_up, starts_and_ends, FirstRun}
 use Rattle.format.proofs.Numbers.{bytes-none, length-bytes}
 use Rattle.format.proofs.RowLaws.{set-from, below_left, below-picks, list-more}
-use Rattle.format.proofs.SlotLaws.{all_none, picks-all}
-use Rattle.slots.specs.Slot.{slot_in}
-use Rattle.predicate.specs.declared.stored.StoredRows.{StoredRows}
+use Rattle.format.proofs.SlotLaws.{all_none, picks-all, picks-none}
 use Rattle.predicate.specs.declared.Selection.{Selection}
 use Rattle.predicate.specs.declared.Selection.TheVariants.{Nothing, Everything, Words, Runs, Rows}
 use Rattle.predicate.specs.declared.Block.{Block}
-use Rattle.predicate.specs.declared.Block.TheVariants.{Run}
+use Rattle.predicate.specs.declared.Block.TheVariants.{Run, Word, Listed}
 use Rattle.predicate.specs.declared.Blocks.{Blocks}
 use Rattle.predicate.specs.Selection.{selected, reach}
-use Rattle.predicate.specs.Blocks.{kept_by, picks_on, edges_on, block_rows, rows_left, Lists, Agrees, InStep, Begun, Within, Leaves, GivesBlock}
-use Rattle.predicate.proofs.Picks.{picks_start, edges-start, picks-span, picks-end, picks-over, picks-word, edges-head, edges-empty}
+use Rattle.predicate.specs.Blocks.{kept_by, picks_on, edges_on, block_rows, rows_left, Lists, Agrees, Inside, InStep, Begun, Within, OfWords, Leaves, GivesBlock}
+use Rattle.predicate.proofs.Picks.{picks_start, edges-start, picks-span, picks-end, picks-over, picks-upto, picks-word, picks-head, edges-head, edges-empty}
 
 -- ---- at the start
 
--- a stored list of runs has them all
+-- a stored list has them all
 whole : (xs : List ℕ) → bytes_at xs 0 (length xs - 0) ≡ xs
 unfolding bytes_at
 whole xs = rw sub-zero (take_all _ xs (omega arith))
@@ -30,11 +28,18 @@ agrees-start : (sel : Selection) {place index : ℕ} → place ≡ 0 → index �
 agrees-start Nothing p i = tt
 agrees-start (Everything n) p i = tt
 agrees-start (Words source) p i = tt
-agrees-start (Runs stored) p i = rw (p, i) (record { room = omega arith; entries = whole stored.ends.now ∙ stored.holds ∙ sym (edges-start (slot_in stored.source) stored.source.bits.len) })
-agrees-start (Rows stored) p i = λ _. p
+agrees-start (Runs stored) p i = rw (p, i) (record { room = omega arith; entries = whole stored.ends.now ∙ stored.holds ∙ sym (edges-start _ stored.bits.len) })
+agrees-start (Rows stored) p i = rw (p, i) (record { room = omega arith; entries = whole stored.rows.now ∙ stored.holds ∙ sym (picks_start _ stored.bits.len) })
+
+inside-start : (sel : Selection) {place : ℕ} → place ≡ 0 → Inside sel place
+inside-start Nothing p = tt
+inside-start (Everything n) p = omega arith
+inside-start (Words source) p = omega arith
+inside-start (Runs stored) p = omega arith
+inside-start (Rows stored) p = omega arith
 
 pub step-start : {sel : Selection} {r : Blocks} → Begun sel r → InStep r
-step-start {sel} {r} b = record { inside = omega (arith, b.1); agrees = agrees-start r.sel b.1 b.2 }
+step-start {sel} {r} b = record { inside = inside-start r.sel b.1; agrees = agrees-start r.sel b.1 b.2 }
 
 -- what is left is all of the selection
 selected-left : (sel : Selection) → picks_on (kept_by sel) (reach sel) 0 ≡ selected sel
@@ -117,21 +122,59 @@ module _ (p : ℕ → Bool) (len place : ℕ) {list : List ℕ} {index : ℕ} (g
 
 -- ---- stored rows
 
-pub list-gives : (stored : StoredRows) (place : ℕ) →
-    let p = slot_in stored.source in
-    let len = stored.source.bits.len in
-    place ≡ 0 → picks_on p len place ≡ stored.rows.now ++ picks_on p len len
-list-gives stored place z =
-    let p = slot_in stored.source in
-    let len = stored.source.bits.len in
-    rw (z, picks-over p len len (omega arith), append-nil) (picks_start p len ∙ sym stored.holds)
+module _ (p : ℕ → Bool) (len place : ℕ) {list : List ℕ} {index : ℕ} (g : Lists list index (picks_on p len place)) where
+  pub list-over : length list ≤ index → picks_on p len place ≡ []
+  list-over l = sym g.entries ∙ bytes-none _ _ _ (omega arith)
+
+  -- those that are left are all given at once, some row
+  module _ (inside : place ≤ len) (l : index < length list) where
+    pub list-gives : Leaves p len place (drop index list) len
+    unfolding bytes_at
+    list-gives =
+        let first = picks-head inside (sym g.entries ∙ list-more list (length list) index (index + 1) l (omega arith) refl) in
+        let low = first.low in
+        let high = first.high in
+        let all : bytes_at list index (length list - index) ≡ drop index list = take_all _ (drop index list) (omega (arith, length-drop index list)) in
+        record { rest = rw (picks-over p len len (omega arith), append-nil) (sym g.entries ∙ all); moves = omega arith; inside = omega arith }
+
+    pub list-lists : Lists list (length list) (picks_on p len len)
+    list-lists = record { room = omega arith; entries = rw (picks-over p len len (omega arith)) (bytes-none _ _ _ (omega arith)) }
+
+-- ---- the words of a source
+
+pub within : (len : ℕ) (block : Block) → OfWords len block → Within len block
+within len (Run a e) h = h
+within len (Word base x) h = h
+within len (Listed rows) h = absurd h
 
 -- ---- for a consumer
 
+-- where none is kept, none is left
+none-left : (place : ℕ) → Below 0 (picks_on (λ i. false) 0 place)
+none-left place = rw (picks-over (λ i. false) 0 place (omega arith)) none
+
 -- the rows of what is left lie below the selection's end
-pub left-below : (s : Blocks) → InStep s → Below (reach s.sel) (rows_left s)
+below-reach : (sel : Selection) (place : ℕ) → Inside sel place → Below (reach sel) (picks_on (kept_by sel) (reach sel) place)
 unfolding picks_on
-left-below s h = below-picks (kept_by s.sel) (reach s.sel) (reach s.sel - s.place) s.place (omega (arith, h.inside))
+below-reach Nothing place h = none-left place
+below-reach (Everything n) place h = below-picks (kept_by (Everything n)) n (n - place) place (omega arith)
+below-reach (Words source) place h = below-picks (kept_by (Words source)) _ (source.bits.len - place) place (omega arith)
+below-reach (Runs stored) place h = below-picks (kept_by (Runs stored)) _ (stored.bits.len - place) place (omega arith)
+below-reach (Rows stored) place h = below-picks (kept_by (Rows stored)) _ (stored.bits.len - place) place (omega arith)
+
+pub left-below : (s : Blocks) → InStep s → Below (reach s.sel) (rows_left s)
+left-below s h = below-reach s.sel s.place h.inside
+
+-- what is left up to a further place, and from there on
+upto-reach : (sel : Selection) (from to : ℕ) → from ≤ to → Inside sel to → picks_on (kept_by sel) (reach sel) from ≡ picks_from (kept_by sel) (to - from) from ++ picks_on (kept_by sel) (reach sel) to
+upto-reach Nothing from to l h = rw (picks-over (λ i. false) 0 from (omega arith), picks-over (λ i. false) 0 to (omega arith), picks-none (λ i. false) (to - from) from (record { at = λ j a k. refl })) refl
+upto-reach (Everything n) from to l h = picks-upto (kept_by (Everything n)) n from to l h
+upto-reach (Words source) from to l h = picks-upto (kept_by (Words source)) _ from to l h
+upto-reach (Runs stored) from to l h = picks-upto (kept_by (Runs stored)) _ from to l h
+upto-reach (Rows stored) from to l h = picks-upto (kept_by (Rows stored)) _ from to l h
+
+pub left-upto : (s t : Blocks) → t.sel ≡ s.sel → s.place ≤ t.place → InStep t → rows_left s ≡ picks_from (kept_by s.sel) (t.place - s.place) s.place ++ rows_left t
+left-upto s t same l h = rw same (upto-reach s.sel s.place t.place l (rw same at h.inside))
 
 -- so do those of the next block
 pub block-below : {s t : Blocks} {block : Block} → InStep s → GivesBlock s (Some block) t → Below (reach s.sel) (block_rows block)

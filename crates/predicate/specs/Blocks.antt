@@ -3,6 +3,7 @@ use Rattle.std.specs.Prelude.{◌≡◌, ℕ, ◌+◌, ◌-◌, ◌*◌, ◌/◌
 use Rattle.format.specs.Bytes.{bytes_at}
 use Rattle.format.specs.Rows.{set_rows}
 use Rattle.format.specs.Slots.{count_up, word_from, after, All, picks_from, runs_from, starts_and_ends}
+use Rattle.slots.specs.Source.{slot_of}
 use Rattle.slots.specs.Slot.{slot_in}
 use Rattle.predicate.specs.declared.Selection.{Selection}
 use Rattle.predicate.specs.declared.Selection.TheVariants as sel
@@ -19,13 +20,13 @@ block_rows (Listed rows) = rows.now
 
 -- ---- what is left of a selection
 
--- which rows it keeps, by its source; where none or all are kept no bit is read, so that rows without a source can be selected too
+-- which rows it keeps, by its bits; where none or all are kept no bit is read, so that rows without a source can be selected too
 abbrev pub kept_by : Selection → ℕ → Bool
 kept_by sel.Nothing = λ i. false
 kept_by (sel.Everything n) = λ i. true
 kept_by (sel.Words source) = slot_in source
-kept_by (sel.Runs stored) = slot_in stored.source
-kept_by (sel.Rows stored) = slot_in stored.source
+kept_by (sel.Runs stored) = slot_of stored.bytes.now stored.bits
+kept_by (sel.Rows stored) = slot_of stored.bytes.now stored.bits
 
 -- the picked rows from row i on, and the starts and ends of their runs: what is still to come at i
 unfoldable pub picks_on : (ℕ → Bool) → ℕ → ℕ → List ℕ
@@ -38,21 +39,29 @@ edges_on p len i = starts_and_ends (runs_from p (len - i) i)
 abbrev pub rows_left : Blocks → List ℕ
 rows_left s = picks_on (kept_by s.sel) (reach s.sel) s.place
 
--- the entries from `index` on are the starts and ends of the runs from `place` on
+-- the entries from `index` on are xs
 pub record Lists (list : List ℕ) (index : ℕ) (xs : List ℕ) : Type 0 where
   pub room : index ≤ length list
   pub entries : bytes_at list index (length list - index) ≡ xs
 
--- what a list of runs has yet to give is what its source picks from the place on; a list of rows gives all of them at once
+-- what a stored list has yet to give is what its bits pick from the place on
 abbrev pub Agrees : Selection → ℕ → ℕ → Type 0
 Agrees sel.Nothing place index = Unit {0}
 Agrees (sel.Everything n) place index = Unit {0}
 Agrees (sel.Words source) place index = Unit {0}
-Agrees (sel.Runs stored) place index = Lists stored.ends.now index (edges_on (slot_in stored.source) stored.source.bits.len place)
-Agrees (sel.Rows stored) place index = place < stored.source.bits.len → place ≡ 0
+Agrees (sel.Runs stored) place index = Lists stored.ends.now index (edges_on (slot_of stored.bytes.now stored.bits) stored.bits.len place)
+Agrees (sel.Rows stored) place index = Lists stored.rows.now index (picks_on (slot_of stored.bytes.now stored.bits) stored.bits.len place)
+
+-- a place among the rows, or behind the last of them; where none is kept, any
+abbrev pub Inside : Selection → ℕ → Type 0
+Inside sel.Nothing place = Unit {0}
+Inside (sel.Everything n) place = place ≤ n
+Inside (sel.Words source) place = place ≤ source.bits.len
+Inside (sel.Runs stored) place = place ≤ stored.bits.len
+Inside (sel.Rows stored) place = place ≤ stored.bits.len
 
 pub record InStep (s : Blocks) : Type 0 where
-  pub inside : s.place ≤ reach s.sel
+  pub inside : Inside s.sel s.place
   pub agrees : Agrees s.sel s.place s.index
 
 abbrev pub Begun : Selection → Blocks → Type 0
@@ -72,9 +81,15 @@ Within len (Run a e) = (a ≤ e) × (e ≤ len)
 Within len (Word base x) = base ≤ len
 Within len (Listed rows) = Unit {0}
 
+-- one that words give lies there, and is no list
+abbrev pub OfWords : ℕ → Block → Type 0
+OfWords len (Run a e) = (a ≤ e) × (e ≤ len)
+OfWords len (Word base x) = base ≤ len
+OfWords len (Listed rows) = ⊥
+
 -- what the words of a source answer: a block, and the row behind it
 abbrev pub Worded : (ℕ → Bool) → ℕ → ℕ → Block × ℕ → Type 0
-Worded p len from r = Within len r.0 × Leaves p len from (block_rows r.0) r.1
+Worded p len from r = OfWords len r.0 × Leaves p len from (block_rows r.0) r.1
 
 -- what a call of `next` gives: the first block of what is left; or nothing, where no row is left
 pub record GivesBlock (s : Blocks) (r : Option Block) (t : Blocks) : Type 0 where

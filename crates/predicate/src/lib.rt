@@ -1,11 +1,9 @@
 // From a mask's bits to the rows that every column filter takes: the selection, and blocks of kept rows.
 #![tactic(auto)]
 
-ghost use Rattle.std.specs.Prelude.{◌≡◌, ◌+◌, ◌-◌, ◌*◌, ◌/◌, ◌^◌, ◌<◌, ◌≤◌, [], length, get_or, MatchOption};
+ghost use Rattle.std.specs.Prelude.{◌≡◌, ◌+◌, ◌-◌, ◌*◌, ◌/◌, ◌^◌, ◌<◌, ◌≤◌, [], length, get_or, drop, MatchOption, None};
 ghost use Rattle.std.specs.Iterator.{at_most};
-ghost use Rattle.std.specs.Option.{ForSome};
 ghost use Rattle.slots.specs.Slot.{slot_in};
-ghost use Rattle.predicate.specs.Entries.{entries_on};
 ghost use Rattle.predicate.specs.Selection.{Selects, reach};
 ghost use Rattle.predicate.specs.Blocks.{picks_on, Begun, InStep, Worded, GivesBlock, Found, Filled, NextRun, starts_long, as_runs};
 
@@ -33,7 +31,7 @@ pub enum Block<'a> {
     Listed(&'a [u32]),
 }
 
-// The blocks of a selection, one after another: rows below `place` are done, and entries below `index` of stored runs. A column that takes the source's
+// The blocks of a selection, one after another: rows below `place` are done, and entries below `index` of a stored list. A column that takes the source's
 // own words or runs moves `place` on by itself.
 #[derive(Drop)]
 pub struct Blocks<'a> {
@@ -168,6 +166,14 @@ fn run_at(ends: &[u32], index: usize) -> (usize, usize)
     (ends[index] as usize, ends[index + 1] as usize)
 }
 
+// The rows of a list from `index` on.
+fn rows_from<'a>(rows: &'a [u32], index: usize) -> &'a [u32]
+    requires { index ≤ length rows.now }
+    ensures { result.now ≡ drop index rows.now }
+{
+    &rows[index..]
+}
+
 impl<'a> Blocks<'a> {
     pub fn new(sel: Selection<'a>) -> Blocks<'a>
         ensures begun { Begun sel.entry result }
@@ -219,31 +225,25 @@ impl<'a> Iterator for Blocks<'a> {
                 Some(Block::Run(a, e))
             }
             Selection::Rows(stored) => {
-                if stored.source.bits.len <= self.place {
+                if stored.rows.len() <= self.index {
                     return None;
                 }
-                self.place = stored.source.bits.len;
-                Some(Block::Listed(stored.rows))
+                let rows = rows_from(stored.rows, self.index);
+                self.place = stored.bits.len;
+                self.index = stored.rows.len();
+                Some(Block::Listed(rows))
             }
         }
     }
 }
 
-// The selection of a route over a source's slots: by the source's words, or by its list where one is stored.
-pub fn selection_of<'a>(route: Route, source: Source<'a>, list: Option<&'a [u32]>) -> Selection<'a>
-    requires stored { ForSome list (λ xs. xs.now ≡ entries_on route (slot_in source) source.bits.len) }
-    ensures { Selects route source.entry list.entry result }
+// The selection of a route over a source's slots, by the source's words.
+pub fn selection_of<'a>(route: Route, source: Source<'a>) -> Selection<'a>
+    ensures { Selects route source.entry None result }
 {
     match route {
         Route::None => Selection::Nothing,
         Route::All => Selection::Everything(source.bits.len),
-        Route::Slices => match list {
-            Some(ends) => Selection::Runs(StoredRuns { source, ends }),
-            None => Selection::Words(source),
-        },
-        Route::Indices => match list {
-            Some(rows) => Selection::Rows(StoredRows { source, rows }),
-            None => Selection::Words(source),
-        },
+        Route::Slices | Route::Indices => Selection::Words(source),
     }
 }

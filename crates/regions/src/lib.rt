@@ -4,7 +4,8 @@
 ghost use Rattle.std.specs.Prelude.{◌≡◌, false, ◌≤◌, ◌<◌};
 ghost use Rattle.std.proofs.Props.{props};
 ghost use Rattle.format.specs.Node.{node_count, rows};
-ghost use Rattle.predicate.specs.Selection.{selected, reach};
+ghost use Rattle.predicate.specs.Selection.{selected, reach, Sourced};
+ghost use Rattle.predicate.proofs.Props.{sourced_prop};
 ghost use Rattle.nesting.specs.Rows.{by_offsets, picks_in};
 ghost use Rattle.fill.specs.Scratch.{Earlier};
 ghost use Rattle.regions.specs.Region.{none_or_all, Selects};
@@ -23,6 +24,7 @@ pub struct Regions<'a> {
     pub places: &'a [usize; 64],
     pub ghost known: { counted.known ≡ node_count counted.journal.now.bytes.now },
     pub ghost rooted: { selected sel ≡ picks_in counted.source },
+    pub ghost sourced: { Sourced sel } by { sourced_prop sel },
     pub ghost short: { reach sel ≤ rows counted.journal.now.bytes.now 0 },
     pub ghost filled: { Earlier counted.journal.now.bytes.now (picks_in counted.source) (node_count counted.journal.now.bytes.now) scratch.now places.now } by { Prim.hlevel props },
 }

@@ -6,7 +6,7 @@ ghost use Rattle.format.specs.Put.{Wrote};
 ghost use Rattle.format.specs.Slots.{picks_from};
 ghost use Rattle.slots.specs.Slot.{slot_in};
 ghost use Rattle.predicate.specs.Blocks.{kept_by};
-ghost use Rattle.predicate.specs.Selection.{reach, selected};
+ghost use Rattle.predicate.specs.Selection.{reach, selected, Sourced};
 ghost use Rattle.runs.specs.Ends.{kept_ends};
 
 pub mod run_ends;
@@ -52,9 +52,9 @@ fn reach(sel: Selection) -> usize
     match sel {
         Selection::Nothing => 0,
         Selection::Everything(n) => n,
-        Selection::Words(source)
-        | Selection::Runs(StoredRuns { source, .. })
-        | Selection::Rows(StoredRows { source, .. }) => source.bits.len,
+        Selection::Words(Source { bits, .. })
+        | Selection::Runs(StoredRuns { bits, .. })
+        | Selection::Rows(StoredRows { bits, .. }) => bits.len,
     }
 }
 
@@ -93,15 +93,17 @@ fn ends_by<F: Fn(usize, usize) -> usize>(
 // The ends of the runs with a kept row, each at the running kept count; neighbours are not merged. The selection is looked at once, so that the loop is
 // compiled for each way to count.
 pub fn filter_run_ends(out: &mut [u8], at: usize, runs: RunEnds, sel: Selection) -> usize
-    requires { at + length (kept_ends runs (selected sel)) ≤ length out.old }
+    requires sourced { Sourced sel }
+    requires room { at + length (kept_ends runs (selected sel)) ≤ length out.old }
     ensures { Wrote out.old at (kept_ends runs.entry (selected sel.entry)) out.new result }
 {
     match sel {
         Selection::Nothing => at,
         Selection::Everything(_) => ends_by(out, at, runs, sel, |lo, hi| hi - lo),
-        Selection::Words(source)
-        | Selection::Runs(StoredRuns { source, .. })
-        | Selection::Rows(StoredRows { source, .. }) => {
+        Selection::Words(Source { bytes, bits, .. })
+        | Selection::Runs(StoredRuns { bytes, bits, .. })
+        | Selection::Rows(StoredRows { bytes, bits, .. }) => {
+            let source = Source { bytes, bits };
             ends_by(out, at, runs, sel, |lo, hi| count_in(source, lo, hi))
         }
     }

@@ -1,7 +1,7 @@
 // From an accepted mask's bits to the written extract: the selection, its list where it is asked for, scratch filled and cleared again.
 #![tactic(auto)]
 
-ghost use Rattle.std.specs.Prelude.{◌≡◌, true, cond, [], ◌^◌, ◌<◌, ◌≤◌, length, replicate};
+ghost use Rattle.std.specs.Prelude.{◌≡◌, true, cond, [], ◌^◌, ◌<◌, ◌≤◌, length, replicate, Some};
 ghost use Rattle.format.specs.Bytes.{over};
 ghost use Rattle.format.specs.Node.{node_count, rows};
 ghost use Rattle.format.specs.Verdict.{pack_limit};
@@ -9,14 +9,16 @@ ghost use Rattle.format.specs.Write.{extract};
 ghost use Rattle.format.specs.Answer.{scratch_needed};
 ghost use Rattle.slots.specs.Slot.{slot_in};
 ghost use Rattle.predicate.specs.Entries.{entries_on};
-ghost use Rattle.predicate.specs.Selection.{selected, reach};
+ghost use Rattle.predicate.specs.Selection.{selected, reach, Sourced, Selects};
 ghost use Rattle.nesting.specs.Rows.{picks_in};
 ghost use Rattle.select.specs.Routed.{Goes, Few, Ready};
 
 use format::{Kind, Route};
 use nesting::Counted;
+use predicate::stored::{StoredRows, StoredRuns};
 use predicate::{Selection, selection_of};
 use regions::Regions;
+use slots::Source;
 use stored_list::store_list;
 use write::write_extract;
 
@@ -29,7 +31,7 @@ const LONG_MASK: usize = 65_536;
 
 // The extract into an output as long as it, by way of scratch as long as is needed, which is zero at the end.
 fn fill_and_write(counted: Counted, sel: Selection, scratch: &mut [u8], output: &mut [u8])
-    requires selects { (selected sel ≡ picks_in counted.source) × (reach sel ≤ rows counted.journal.now.bytes.now 0) }
+    requires selects { (selected sel ≡ picks_in counted.source) × (reach sel ≤ rows counted.journal.now.bytes.now 0) × Sourced sel }
     requires ready { Ready counted scratch.old output.old }
     ensures { (output.new ≡ extract counted.entry.journal.now.bytes.now (picks_in counted.entry.source)) × (scratch.new ≡ replicate (length scratch.old) 0) }
 {
@@ -43,6 +45,28 @@ fn fill_and_write(counted: Counted, sel: Selection, scratch: &mut [u8], output: 
     write_extract(output, &regions);
     let need = scratch.len();
     fill::clear(scratch, need);
+}
+
+// The selection of a route by its entries, which a list holds, all of them and no more.
+fn selection_by<'a>(route: Route, source: Source<'a>, list: &'a [u32]) -> Selection<'a>
+    requires { list.now ≡ entries_on route (slot_in source) source.bits.len }
+    ensures { Selects route source.entry (Some list.entry) result }
+{
+    let Source { bytes, bits, .. } = source;
+    match route {
+        Route::None => Selection::Nothing,
+        Route::All => Selection::Everything(bits.len),
+        Route::Slices => Selection::Runs(StoredRuns {
+            bytes,
+            bits,
+            ends: list,
+        }),
+        Route::Indices => Selection::Rows(StoredRows {
+            bytes,
+            bits,
+            rows: list,
+        }),
+    }
 }
 
 // The same by the route's entries, which are stored at the front of a list, so that the mask is not walked by every column.
@@ -59,7 +83,7 @@ fn write_listed(
     ensures { (output.new ≡ extract counted.entry.journal.now.bytes.now (picks_in counted.entry.source)) × (scratch.new ≡ replicate (length scratch.old) 0) × (list.new ≡ over (entries_on route (slot_in counted.entry.source) counted.entry.source.bits.len) list.old) }
 {
     let n = store_list(counted.source, route, list);
-    let sel = selection_of(route, counted.source, Some(&list[..n]));
+    let sel = selection_by(route, counted.source, &list[..n]);
     fill_and_write(counted, sel, scratch, output);
 }
 
@@ -109,6 +133,6 @@ pub fn select_and_write(
         write_listed(counted, route, list, scratch, output);
         return;
     }
-    let sel = selection_of(route, source, None);
+    let sel = selection_of(route, source);
     fill_and_write(counted, sel, scratch, output);
 }

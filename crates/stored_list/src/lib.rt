@@ -49,7 +49,7 @@ fn store_runs(source: Source, list: &mut [u32]) -> usize
     ensures { Wrote list.old 0 (starts_and_ends (runs_from (slot_in source.entry) source.entry.bits.len 0)) list.new result }
 {
     let mut here = 0;
-    for (start, end) in SlicesIterator::new(source) {
+    for (start, end) in SlicesIterator::new(source.bytes, source.bits) {
         list[here] = start as u32;
         list[here + 1] = end as u32;
         here += 2;

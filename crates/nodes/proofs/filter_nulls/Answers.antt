@@ -47,7 +47,7 @@ filter_bits-next-requires c =
     let p = c.args.picked in
     let limit = p.journal.now.sound.agree.limit p.index p.inside in
     let short = p.short in
-    record { len_bound = omega arith; len_in_bounds = fits (goal.at.filter_bits-next-requires c).After-node-node }
+    record { sourced = p.sourced; len_bound = omega arith; len_in_bounds = fits (goal.at.filter_bits-next-requires c).After-node-node }
 
 pub null_count-requires : goal.null_count-requires
 null_count-requires c =

@@ -16,7 +16,8 @@ pub invariant_of-runs : goal.invariant_of-runs
 invariant_of-runs c = record { lie = runs-lie c.args.picked c.requires.kind_value c.node-node.ensures (many (goal.at.invariant_of-runs c).After-rows) }
 
 pub put_run_ends-requires : goal.put_run_ends-requires
-put_run_ends-requires c = rw (← first-runs-are c.args.picked c.requires.kind_value c.node-node.ensures (many (goal.at.put_run_ends-requires c).After-rows)) c.requires.room
+put_run_ends-requires c =
+    record { sourced = c.args.picked.sourced; room = rw (← first-runs-are c.args.picked c.requires.kind_value c.node-node.ensures (many (goal.at.put_run_ends-requires c).After-rows)) c.requires.room }
 
 pub returns : goal.returns
 returns c = rw (first-runs-are c.args.picked c.requires.kind_value c.node-node.ensures (many (goal.at.returns c).After-rows)) c.put_run_ends.ensures

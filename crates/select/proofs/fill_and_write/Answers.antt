@@ -10,7 +10,7 @@ fill_all-places-requires c = let r = c.requires.ready in record { known = r.know
 pub invariant_of-regions : goal.invariant_of-regions
 invariant_of-regions c =
     let q = c.requires in
-    record { known = q.ready.known; rooted = q.selects.0; short = q.selects.1; filled = filled c.fill_all-places.ensures q.ready.needs c.args.counted.ready.sound }
+    record { known = q.ready.known; rooted = q.selects.0; sourced = q.selects.2; short = q.selects.1; filled = filled c.fill_all-places.ensures q.ready.needs c.args.counted.ready.sound }
 
 pub returns : goal.returns
 returns c = (c.write_extract.ensures, cleared c.fill_all-places.ensures c.requires.ready.needs refl c.clear.ensures)

@@ -6,7 +6,7 @@ use Rattle.format.specs.Bytes.{over}
 use Rattle.format.proofs.Laws.{kept-root}
 use Rattle.nesting.specs.Rows.{picks_in}
 use Rattle.nesting.proofs.ByKind.{rows-small}
-use Rattle.predicate.proofs.Holding.{reach-of}
+use Rattle.predicate.proofs.Holding.{reach-of, sourced-of}
 use Rattle.select.proofs.Selecting.{selects}
 use Rattle.select.proofs.select_and_write.Goals as goal
 
@@ -25,7 +25,7 @@ pub fill_and_write-requires : goal.fill_and_write-requires
 fill_and_write-requires c =
     let q = c.requires in
     let h = c.selection_of-sel.ensures in
-    record { selects = (selects q.goes _ _ h, omega (arith, reach-of _ _ _ _ h, q.ready.long)); ready = q.ready }
+    record { selects = (selects q.goes _ _ h, omega (arith, reach-of _ _ _ _ h, q.ready.long), sourced-of _ _ _ _ h); ready = q.ready }
 
 pub returns : goal.returns
 unfolding over

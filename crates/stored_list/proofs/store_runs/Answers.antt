@@ -11,7 +11,7 @@ use Rattle.stored_list.proofs.store_runs.Goals.{In-Some}
 pub loop-start-init : goal.loop-start-init
 loop-start-init c =
     let e = c.into_iter-start-iterator.ensures.into_iter_gives ∙ c.new-start-items.ensures in
-    rw e (c.requires.0, whole refl (rw sub-zero))
+    rw e (c.args.source.lies, c.requires.0, whole refl (rw sub-zero))
 
 -- the run's start and end are the next to store
 first_off : (c : In-Some) → starts_and_ends (runs_left c.loop-start.start-iterator) ≡ c.in-Some.start ∷ c.in-Some.end ∷ starts_and_ends (runs_left c.next.new.self)
@@ -23,11 +23,11 @@ small c = let f = gives-first _ _ _ c.in-Some.ensures.steps in (omega (arith, f.
 
 -- there is a place for both
 fits : (c : In-Some) → c.loop-start.here + 2 ≤ length c.loop-start.list
-fits c = room (_ ∷ _ ∷ []) (starts_and_ends _) c.loop-start.invariant.1 (first_off c) (omega arith)
+fits c = room (_ ∷ _ ∷ []) (starts_and_ends _) c.loop-start.invariant.2 (first_off c) (omega arith)
 
 pub loop-start-preserved : goal.loop-start-preserved
 loop-start-preserved c =
-    (rw c.in-Some.ensures.steps.1 c.loop-start.invariant.0, stored (stored c.loop-start.invariant.1 (first_off c) refl) refl (omega arith))
+    (c.in-Some.ensures.goes.keeps, rw c.in-Some.ensures.steps.1 c.loop-start.invariant.1, stored (stored c.loop-start.invariant.2 (first_off c) refl) refl (omega arith))
 
 pub overflow_cast-list : goal.overflow_cast-list
 overflow_cast-list c = omega (arith, (small c).0)
@@ -36,7 +36,7 @@ pub overflow_cast-list-in-loop-start : goal.overflow_cast-list-in-loop-start
 overflow_cast-list-in-loop-start c = omega (arith, (small c).1)
 
 pub offset_bounds-list-here : goal.offset_bounds-list-here
-offset_bounds-list-here c = omega (arith, fits c, kept c.loop-start.invariant.1)
+offset_bounds-list-here c = omega (arith, fits c, kept c.loop-start.invariant.2)
 
 pub bounds-list-here : goal.bounds-list-here
 bounds-list-here c = omega (arith, fits c)
@@ -45,7 +45,7 @@ pub overflow_add-list : goal.overflow_add-list
 overflow_add-list c = omega (arith, fits c)
 
 pub offset_bounds-list-here-in-loop-start : goal.offset_bounds-list-here-in-loop-start
-offset_bounds-list-here-in-loop-start c = omega (arith, fits c, kept c.loop-start.invariant.1)
+offset_bounds-list-here-in-loop-start c = omega (arith, fits c, kept c.loop-start.invariant.2)
 
 pub bounds-list-here-in-loop-start : goal.bounds-list-here-in-loop-start
 bounds-list-here-in-loop-start c = simp length-set (omega (arith, fits c))
@@ -55,4 +55,4 @@ overflow_add-here c = omega (arith, fits c)
 
 pub returns : goal.returns
 unfolding starts_and_ends
-returns c = done c.loop-start.invariant.1 (ap starts_and_ends (left-none _ _ c.in-None.ensures.steps)) refl
+returns c = done c.loop-start.invariant.2 (ap starts_and_ends (left-none _ _ c.in-None.ensures.steps)) refl

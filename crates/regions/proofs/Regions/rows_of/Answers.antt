@@ -5,4 +5,4 @@ use Rattle.format.proofs.SlotLaws.{chosen-picks}
 use Rattle.regions.proofs.Regions.rows_of.Goals as goal
 
 pub returns-in-Bitmap : goal.returns-in-Bitmap
-returns-in-Bitmap c = record { kept = sym (chosen-picks _ _) ∙ c.in-Bitmap.ensures.0; short = omega (arith, c.in-Bitmap.ensures.1) }
+returns-in-Bitmap c = record { sourced = tt; kept = sym (chosen-picks _ _) ∙ c.in-Bitmap.ensures.0; short = omega (arith, c.in-Bitmap.ensures.1) }

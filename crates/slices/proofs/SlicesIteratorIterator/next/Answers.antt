@@ -8,6 +8,6 @@ use Rattle.slices.proofs.SlicesIteratorIterator.next.Goals as goal
 pub returns-clause-goes : goal.returns-clause-goes
 returns-clause-goes c =
     let i = c.args.self.now in
-    let t : SlicesIterator = record { source = i.source; at = c.map_or-self.result } in
+    let t : SlicesIterator = record { mask = i.mask; bits = i.bits; at = c.map_or-self.result } in
     let moved : t ≡ advanced i = search rules in
-    goes i t c.next_run-run.result (c.next_run-run.ensures, moved)
+    goes i t c.next_run-run.result c.requires (c.next_run-run.ensures, moved)
