@@ -6,7 +6,6 @@ ghost use Rattle.std.specs.Prelude.{◌<◌, length};
 
 use format::Reason;
 use reading::read_full;
-use std::io;
 
 // The most that a line can hold: a pack of 64 nodes, the most that there may be, has 2,576 bytes of table and trailer.
 const PACK_ROOM: usize = 4096;
@@ -19,12 +18,12 @@ fn number(verdict: Result<(), Reason>) -> u64 {
     verdict.map_or_else(u64::from, |()| 0)
 }
 
-// A pack's name and numbers.
-fn report(rt: &impl Print, name: &[u8], pack: &[u8]) -> io::Result<()> {
+// A pack's name and numbers. A write that fails is passed over: what is printed is held to stored lines.
+fn report(rt: &impl Print, name: &[u8], pack: &[u8]) {
     let as_journal = number(checker::check(pack));
     let as_mask = number(checker::check_mask(pack));
-    rt.write_all(name)?;
-    println!(rt; " {as_journal} {as_mask}")
+    let _ = rt.write_all(name);
+    let _ = println!(rt; " {as_journal} {as_mask}");
 }
 
 // The pack that a text begins with; gives the text behind it.
@@ -36,8 +35,7 @@ fn case<'a>(rt: &impl Print, text: &'a [u8]) -> &'a [u8]
     let (name, words) = text.split_at(1 + case_text::name_end(&text[1..]));
     let part = case_text::read_part(words, &mut room);
     let len = part.len;
-    // A write that fails is passed over: what is printed is held to stored lines.
-    let _ = report(rt, name, &room[..len]);
+    report(rt, name, &room[..len]);
     part.rest
 }
 

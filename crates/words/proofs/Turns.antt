@@ -1,8 +1,8 @@
 -- One turn of the iterators over a word's rows and over its runs. Assumes nothing.
-use Rattle.std.proofs.Common.{◌≡◌, ℕ, ◌+◌, ◌-◌, ◌%◌, ◌<◌, ◌^◌, ◌∷◌, List, refl, ap, arith}
+use Rattle.std.proofs.Common.{◌≡◌, ℕ, ◌+◌, ◌-◌, ◌%◌, ◌<◌, ◌^◌, ◌∷◌, refl, ap, arith}
 use lib.Bits.{bit_and}
 use lib.Count.{count_trailing_zeros}
-use Rattle.format.specs.Rows.{set_rows, Below, more}
+use Rattle.format.specs.Rows.{set_rows}
 use Rattle.format.proofs.RowLaws.{set_more}
 use Rattle.words.specs.Run.{LowestRun}
 use Rattle.words.proofs.Carry.{lowest-run}

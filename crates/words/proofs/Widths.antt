@@ -1,5 +1,5 @@
 -- The widths of numbers one by one. Assumes nothing.
-use Rattle.std.proofs.Common.{◌≡◌, ℕ, true, ◌||◌, [], ◌∷◌, eqb, sym, ◌∙◌, ne_eqb, eqb-true}
+use Rattle.std.proofs.Common.{◌≡◌, ℕ, true, [], ◌∷◌, eqb, sym, ◌∙◌, ne_eqb, eqb-true}
 use mathlib.Core.Bool.{or-false, or-true}
 use Rattle.format.specs.Verdict.{one_of}
 use Rattle.words.specs.Width.{IsWidth}
