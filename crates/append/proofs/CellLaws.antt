@@ -19,11 +19,27 @@ use Rattle.append.specs.Cells.{zeros, padding, entry, entries_of, word_rows, Amo
 
 -- ---- numbers
 
+pub to_le-same : (w v n : ℕ) → w ≡ v → to_le w n ≡ to_le v n
+to_le-same w v n e = ap (λ (k : ℕ). to_le k n) e
+
 -- the numbers of a list from index i on
 pub numbers_more : (w : ℕ) (ns : List ℕ) (i : ℕ) → i < length ns → numbers w (drop i ns) ≡ to_le w (get_or ns i 0) ++ numbers w (drop (i + 1) ns)
 numbers_more w ns i h = rw (add-one, drop-cons ns i 0 h) (numbers-cons w _ _)
 
 -- ---- zeros
+
+pub zeros-same : (n m : ℕ) → n ≡ m → zeros n ≡ zeros m
+zeros-same n m e = ap zeros e
+
+pub zeros-none : (n : ℕ) → n ≡ 0 → zeros n ≡ []
+unfolding zeros
+zeros-none n e = ap zeros e
+
+pub zeros-more : (n m : ℕ) → n ≡ m + 1 → zeros n ≡ 0 ∷ zeros m
+unfolding zeros
+zeros-more n m e =
+    let e' : n ≡ suc m = omega arith in
+    ap zeros e'
 
 pub length-zeros : (n : ℕ) → length (zeros n) ≡ n
 unfolding zeros

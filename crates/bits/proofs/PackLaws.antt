@@ -39,6 +39,12 @@ packing-keeps ts =
     let first : low_bits 64 (word_of (take 64 ts)) ≡ take 64 ts = rw (length-take-le 64 ts long) at (low_word (take 64 ts)) in
     rw (packing-full ts long, first) (take-append-drop 64 ts))
 
+-- of fewer than 128 bits fewer than 64 wait: a packer takes up to 64 bits at once
+pub packing-packed : (ts : List Bool) → length ts < 128 → length (packing ts).0 < 64
+packing-packed ts l =
+    dite (dec_lt (length ts) 64) (λ (h : length ts < 64). rw (packing-partial ts h) h)
+    (λ h. let long : 64 ≤ length ts = omega arith in rw (packing-full ts long, length-drop) (omega arith))
+
 -- the step, where the fields of a packer say which bits ts wait
 module _ {ts : List Bool} {current filled : ℕ} (waits : low_bits filled current ≡ ts) (room : filled < 64) (clear : current < 2 ^ filled)
     (bits n : ℕ) (width : n ≤ 64) (small : bits < 2 ^ n) where

@@ -54,19 +54,19 @@ module _ {k : KeptNode} {old : List ℕ} {at : ℕ} {new : List ℕ} {r : Buffer
   bitmap-end : ending at (bitmap k.marks) ≤ no_bitmap
   bitmap-end = omega (arith, first-end, further (ending at (bitmap k.marks)) (first k.values))
 
-  validity-fits : r.validity ≤ no_bitmap
+  pub validity-fits : r.validity ≤ no_bitmap
   validity-fits = rw a.bitmap_start (start-within no_bitmap at no_bitmap (bitmap k.marks) (omega arith) bitmap-end)
 
-  first_fits : r.first ≤ pack_limit
+  pub first_fits : r.first ≤ pack_limit
   first_fits = rw a.first_start (start-within 0 (ending at (bitmap k.marks)) pack_limit (first k.values) (omega arith) first-end)
 
-  second_fits : r.second ≤ pack_limit
+  pub second_fits : r.second ≤ pack_limit
   second_fits = rw a.second_start (start-within 0 (ending (ending at (bitmap k.marks)) (first k.values)) pack_limit (second k.values) (omega arith) all_end)
 
-  data-fits : r.data ≤ pack_limit
+  pub data-fits : r.data ≤ pack_limit
   data-fits = rw a.size (omega (arith, all_end, data-within (ending (ending at (bitmap k.marks)) (first k.values)) k.values))
 
-nulls-fit : (b : List ℕ) (i : ℕ) (rs : List ℕ) {old : List ℕ} {at : ℕ} {new : List ℕ} {r : Buffers} → Added (kept_node b i rs) old at new r → length rs ≤ 1_048_576
+pub nulls-fit : (b : List ℕ) (i : ℕ) (rs : List ℕ) {old : List ℕ} {at : ℕ} {new : List ℕ} {r : Buffers} → Added (kept_node b i rs) old at new r → length rs ≤ 1_048_576
     → r.nulls ≤ 1_048_576
 unfolding kept_node
 nulls-fit b i rs a few = rw a.counted (omega (arith, few-nulls (map (valid b i) rs), length-map rs (valid b i)))

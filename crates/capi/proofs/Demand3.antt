@@ -1,10 +1,10 @@
 -- Demand 3 of the C entry point `filter`: two calls whose masks pick the same rows, and whose journals are alike in the kept part, return the same
 -- number, write the same four numbers and leave the same output, whatever else the two journals hold. The premises (`Alike`) and the conclusion
--- (`Same`) are those of format/proofs/Demand3.antt, with the answer in numbers. Assumes nothing.
+-- (`Same`) are those of format/proofs/Demand3.antt, with the answer in numbers; Witness.antt has calls that meet the premises. Assumes nothing.
 use Prim.Native.Nat.{ℕ}
-use mathlib.Core.Bool.{Bool}
+use mathlib.Core.Bool.{Bool, false}
 use mathlib.Core.List.{List}
-use mathlib.Core.Path.{ap₂}
+use mathlib.Core.Path.{◌≡◌, refl, ap₂}
 use borrow.Fn.Kinds.{Dens, res_t, ended_of}
 use contract.Lifetimes.{Lfts}
 use denote.Triple.Clauses.{AtExit}
@@ -73,6 +73,10 @@ seen f =
       written = f.ensures.written;
       listed = f.ensures.listed;
     }
+
+-- `call f` holds a count only if one is stated: two calls that state none may be passed any two numbers in its place
+pub number-unseen : (f g : Entry) → f.states ≡ false → g.states ≡ false → (call f).stated ≡ (call g).stated
+number-unseen f g p q = rw (p, q) refl
 
 pub demand3 : (f g : Entry) → Alike (call f) (call g) → Same (seen f) (seen g)
 demand3 f g h = format.demand3 (call f) (call g) h (seen f) (seen g)

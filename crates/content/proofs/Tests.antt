@@ -1,18 +1,20 @@
 -- Each loop's test, as the code writes it, is the definition's; over the width. Assumes nothing.
-use Rattle.std.proofs.Common.{◌≡◌, ℕ, ◌+◌, ◌-◌, ◌*◌, ◌/◌, ◌%◌, ◌^◌, ◌<◌, ◌≤◌, Bool, false, ◌&&◌, eqb, ltb, leb, List, get_or, sym, ◌∙◌, mod-lt, mod-eq_of_lt, arith}
+use Rattle.std.proofs.Common.{◌≡◌, ℕ, suc, ◌+◌, ◌-◌, ◌*◌, ◌/◌, ◌%◌, ◌^◌, ◌<◌, ◌≤◌, Bool, true, false, ◌&&◌, eqb, ltb, leb, List, [], ◌∷◌, get_or, sym, ap, ◌∙◌, add-zero, mod-lt, mod-eq_of_lt, mul-le-mul_left, mul-suc, ne_eqb, eqb-true, arith}
+use mathlib.Core.Bool.{or-false}
 use Rattle.std.proofs.Math.Nat.{mod-le}
 use Rattle.words.specs.Width.{IsWidth}
 use mathlib.Core.Logic.{dite}
 use native.Mathlib.Decide.{dec_lt}
 use borrow.Author.Tests.{lt-leb}
-use Rattle.format.specs.Bytes.{any_below, bit_in, bit_at}
+use Rattle.format.specs.Bytes.{le, any_below, bit_in, bit_at, sum_below}
+use Rattle.format.specs.Verdict.{one_of}
 use Rattle.format.proofs.Numbers.{le-lt}
 use Rattle.content.specs.Numbers.{number, bad_key, bad_valid_key, start_at, bad_runs_at}
 use Rattle.content.proofs.SignLaws.{left-is, power_some}
 use Rattle.content.proofs.Fold.{any-never, any-and}
 
 -- keys
-key-is : (w : ℕ) (b : List ℕ) (at limit i key : ℕ) → key ≡ number w b at i → leb limit key ≡ bad_key w b at limit i
+pub key-is : (w : ℕ) (b : List ℕ) (at limit i key : ℕ) → key ≡ number w b at i → leb limit key ≡ bad_key w b at limit i
 unfolding bad_key
 key-is w b at limit i key e = rw e
 
@@ -50,3 +52,29 @@ no-key w b at limit n small h =
 pub no-runs : (w : ℕ) (b : List ℕ) (at n places : ℕ) → n ≡ 0 → ltb 0 places ≡ bad_runs_at w b at n places
 unfolding bad_runs_at start_at any_below
 no-runs w b at n places e = rw e
+
+-- a byte as a number of one byte
+pub le-byte : (b : List ℕ) (at : ℕ) → le 1 b at ≡ get_or b at 0
+unfolding le sum_below
+le-byte b at = simp add-zero (omega arith)
+
+pub byte-number : (b : List ℕ) (at i : ℕ) → get_or b (at + i) 0 ≡ number 1 b at i
+unfolding number
+byte-number b at i =
+    let e : at + i ≡ at + 1 * i = omega arith in
+    ap (λ (k : ℕ). get_or b k 0) e ∙ sym (le-byte b (at + 1 * i))
+
+pub byte-is : (b : List ℕ) (at limit i : ℕ) → leb limit (get_or b (at + i) 0) ≡ bad_key 1 b at limit i
+byte-is b at limit i = key-is 1 b at limit i (get_or b (at + i) 0) (byte-number b at i)
+
+-- number i of n lies where all n lie
+pub number-inside : (at w i n len : ℕ) → i < n → at + w * n ≤ len → at + w * i + w ≤ len
+number-inside at w i n len l h =
+    let q : w * suc i ≤ w * n = mul-le-mul_left w l in
+    let e : w * suc i ≡ w * i + w = mul-suc w i in
+    omega arith
+
+-- what is one of three numbers, and not one of the first two, is the last
+pub width-last : (w x y z : ℕ) → one_of (x ∷ y ∷ z ∷ []) w ≡ true → (w ≡ x → ⊥) → (w ≡ y → ⊥) → w ≡ z
+unfolding one_of
+width-last w x y z e hx hy = eqb-true w z (sym (or-false (eqb w z)) ∙ rw (ne_eqb w x hx, ne_eqb w y hy) at e)

@@ -1,7 +1,7 @@
 -- A part of a buffer written whole; the same byte many times; of the tests of slots, one, and how long they are packed. Assumes nothing.
 use Prim.Native.Nat.{ℕ, zero, suc, ◌+◌, ◌-◌, ◌≤◌, ◌<◌}
 use mathlib.Core.Bool.{Bool, false}
-use mathlib.Core.List.{List, ◌++◌, append_assoc, append-nil}
+use mathlib.Core.List.{List, [], ◌∷◌, ◌++◌, append_assoc, append-nil}
 use mathlib.Core.Path.{◌≡◌, sym, ap, ◌∙◌}
 use native.Mathlib.Nat.{add-zero, add-suc, suc-add}
 use native.Mathlib.Omega.{arith}
@@ -40,6 +40,14 @@ part-filled old from to x {ys} l h e =
     let long : length (take (to - from) (drop from old)) ≡ to - from = simp (length-take, length-drop) (omega arith) in
     let same : ys ≡ replicate (to - from) x = e ∙ ap (λ (n : ℕ). replicate n x) long in
     part-wrote from (to - from) same (length-replicate (to - from) x) (omega arith) (omega arith)
+
+-- ---- the same byte many times, of which those from j on are left
+
+pub same_next : (x n j : ℕ) → j < n → ◌≡◌ {A = List ℕ} (replicate (n - j) x) (x ∷ replicate (n - (j + 1)) x)
+same_next x n j h = let e : n - j ≡ suc (n - (j + 1)) = omega arith in rw e
+
+pub same_none : (x n j : ℕ) → n ≤ j → ◌≡◌ {A = List ℕ} (replicate (n - j) x) []
+same_none x n j h = let e : n - j ≡ 0 = omega arith in rw e
 
 -- ---- the tests of slots: one by one, and packed
 

@@ -38,6 +38,10 @@ pub nests-narrow : {w : ℕ} {k : Kind} → Nests w k → w ≤ 1024
 nests-narrow Accepted.Nests.nested32 = omega arith
 nests-narrow Accepted.Nests.nested64 = omega arith
 
+pub nests-wide : {w : ℕ} {k : Kind} → Nests w k → (w ≡ 4 → ⊥) → w ≡ 8
+nests-wide Accepted.Nests.nested32 f = absurd (f refl)
+nests-wide Accepted.Nests.nested64 f = refl
+
 nests-width : {w : ℕ} {k : Kind} → Nests w k → one_of (2 ∷ 4 ∷ 8 ∷ []) w ≡ true
 unfolding one_of
 nests-width Accepted.Nests.nested32 = refl

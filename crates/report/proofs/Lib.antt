@@ -1,2 +1,4 @@
--- Examples of the printed line.
+-- Laws of the printed line, and its examples.
+pub mod Decimal
+pub mod Lines
 pub mod Cases

@@ -1,7 +1,7 @@
 -- Loops that count picked slots word by word, by the set bits of each; and the rows that a bitmap marks null. Assumes nothing.
 use Prim.Native.Nat.{ℕ, ◌+◌, ◌-◌, ◌*◌, ◌/◌, ◌%◌, ◌≤◌, ◌<◌}
 use Rattle.std.specs.Prelude.{Some, None}
-use mathlib.Core.Bool.{Bool, true, false, not}
+use mathlib.Core.Bool.{Bool, true, false, not, ◌&&◌}
 use mathlib.Core.List.{List}
 use mathlib.Core.Path.{◌≡◌, refl, sym, ap, ap₂, ◌∙◌}
 use native.Mathlib.Nat.{zero-add}
@@ -16,7 +16,7 @@ use Rattle.format.proofs.SlotLaws.{count-cat, count-le, picks-ext}
 use Rattle.format.proofs.WordLaws.{from_le, from-shift, from-and, from-ones, from-lt}
 use Rattle.slots.specs.declared.Bits.{Bits}
 use Rattle.slots.specs.Source.{both_set, slot_of, ByteWords}
-use Rattle.slots.proofs.Reading.{slot_is, set-plain}
+use Rattle.slots.proofs.Reading.{slot_is, set-plain, set-valid}
 
 -- n slots of the first w words pass the test
 pub record Counted (p : ℕ → Bool) (n w : ℕ) : Type 0 where
@@ -48,6 +48,42 @@ pub word-place : (b : Bits) {n : ℕ} (h : ByteWords b n) (w at : ℕ) → w < n
 word-place b h w at l =
     let even : b.skip % 8 ≡ 0 = h.even (omega arith) in
     omega arith
+
+-- eight bytes are a word of the bits from a byte on, and two such words met one of the bits set in both
+module _ (s : List ℕ) (small : (i : ℕ) → get_or s i 0 < 256) (w : ℕ) where
+  pub bytes_word : (at x : ℕ) → x ≡ le 8 s (at + 8 * w) → x ≡ word_from (bit_at s at) 64 (64 * w)
+  unfolding bit_at
+  bytes_word at x e =
+      let place : 8 * (at + 8 * w) ≡ 8 * at + 64 * w = omega arith in
+      e ∙ from_le s small 8 (at + 8 * w) ∙ ap (word_from (bit_in s) 64) place ∙ from-shift (bit_in s) (8 * at) 64 (64 * w)
+
+  pub both_word : (at to x y : ℕ) → x ≡ le 8 s (at + 8 * w) → y ≡ le 8 s (to + 8 * w) → bit_and x y ≡ word_from (λ j. bit_at s at j && bit_at s to j) 64 (64 * w)
+  both_word at to x y e f = ap₂ bit_and (bytes_word at x e) (bytes_word to y f) ∙ from-and (bit_at s at) (bit_at s to) 64 (64 * w)
+
+-- the slots of words that stand in eight bytes each are the bits from their byte on
+module _ (s : List ℕ) (b : Bits) (n : ℕ) (h : ByteWords b n) where
+  place : (at j : ℕ) → j < 64 * n → 8 * at + (b.skip + j) ≡ 8 * (at + b.skip / 8) + j
+  place at j l = let e : b.skip % 8 ≡ 0 = h.even (omega arith) in omega arith
+
+  inside : (j : ℕ) → j < 64 * n → j < b.len
+  inside j l = omega (arith, h.whole)
+
+  pub bits-picks : b.validity ≡ None → picks_from (bit_at s (b.values_at + b.skip / 8)) (64 * n) 0 ≡ picks_from (slot_of s b) (64 * n) 0
+  unfolding bit_at
+  bits-picks e =
+      picks-ext _ _ (64 * n) 0
+      (λ j _ l.
+      let k : j < 64 * n = omega arith in
+      sym (slot_is s b j (inside j k) ∙ set-plain s b j e ∙ ap (bit_in s) (place b.values_at j k)))
+
+  pub both-picks : {to : ℕ} → b.validity ≡ Some to
+      → picks_from (λ j. bit_at s (b.values_at + b.skip / 8) j && bit_at s (to + b.skip / 8) j) (64 * n) 0 ≡ picks_from (slot_of s b) (64 * n) 0
+  unfolding bit_at
+  both-picks {to} e =
+      picks-ext _ _ (64 * n) 0
+      (λ j _ l.
+      let k : j < 64 * n = omega arith in
+      sym (slot_is s b j (inside j k) ∙ set-valid s b j e ∙ ap₂ (λ (x y : ℕ). bit_in s x && bit_in s y) (place b.values_at j k) (place to j k)))
 
 -- the rows that one bitmap marks, taken from all
 module _ (s : List ℕ) (b : Bits) (e : b.validity ≡ None) where
