@@ -36,11 +36,12 @@ pub fn node_count(pack: &[u8]) -> u32
     trailer_of(pack).node_count
 }
 
-// Where the table of nodes starts, and the body ends.
+// Where the table of nodes starts, and the body ends. Read alone, since each read of a node begins with it: the whole trailer makes a check of many
+// small nodes a quarter longer.
 pub fn table_start(pack: &[u8]) -> u32
     ensures { result ≡ table_start pack.now }
 {
-    trailer_of(pack).table_start
+    u32_at(pack, pack.len().saturating_sub(16))
 }
 
 // Node i.

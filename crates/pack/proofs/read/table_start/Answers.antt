@@ -1,7 +1,8 @@
 -- `pack::read::table_start` meets its contract. Assumes nothing.
-use Rattle.pack.specs.declared.Trailer.{Trailer}
-use mathlib.Core.Path.{ap}
+use Rattle.std.proofs.Common.{rules}
+use Rattle.format.specs.Node.{table_start}
 use Rattle.pack.proofs.read.table_start.Goals as goal
 
 pub returns : goal.returns
-returns c = ap (λ (t : Trailer). t.table_start) c.trailer_of.ensures
+unfolding table_start
+returns c = search rules
