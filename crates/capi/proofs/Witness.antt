@@ -56,15 +56,15 @@ unstated = ran (mask_of 5 0x09) tight_journal false 7 false [] (9 ∷ 9 ∷ []) 
 unstated' : Entry
 unstated' = ran other_mask loose_journal false 0 true (1 ∷ 2 ∷ 3 ∷ []) (8 ∷ 8 ∷ 8 ∷ []) (replicate 528 7)
 
-pub unstated-alike : Same (seen unstated) (seen unstated')
+unstated-alike : Same (seen unstated) (seen unstated')
 unfolding unstated unstated' other_mask one_way other_way call
 unstated-alike = demand3 unstated unstated' premises-hold
 
-pub unstated-succeeds : unstated.result ≡ 0
+unstated-succeeds : unstated.result ≡ 0
 unfolding unstated one_way call
 unstated-succeeds = ap refusal_number premises-succeed
 
-pub unstated-gives : unstated.numbers ≡ 2 ∷ 5 ∷ route_number Indices ∷ 520 ∷ []
+unstated-gives : unstated.numbers ≡ 2 ∷ 5 ∷ route_number Indices ∷ 520 ∷ []
 unfolding unstated one_way call
 unstated-gives = ap answer_numbers premises-succeed
 
@@ -77,7 +77,7 @@ short' : Entry
 short' = ran other_mask loose_journal false 6 true (1 ∷ 2 ∷ 3 ∷ []) (8 ∷ 8 ∷ 8 ∷ []) (replicate 519 7)
 
 -- no premise but `same_output` looks at the output
-pub short-alike : Same (seen short) (seen short')
+short-alike : Same (seen short) (seen short')
 unfolding short short' other_mask one_way other_way call list_short scratch_short
 short-alike =
     let hold : Alike one_way other_way = premises-hold in
@@ -101,6 +101,6 @@ short-alike =
       same_stated = refl;
     })
 
-pub short-refused : short.result ≡ 14
+short-refused : short.result ≡ 14
 unfolding Bytes.opened Node.opened Verdict.opened Masks.opened Kept.opened Write.opened Refusals.opened Reasons.opened Answers.opened marked pack old_pack counting node mask_of abcde pieces place tight tight_journal short
 short-refused = refl
