@@ -6,6 +6,7 @@ use mathlib.Core.List.{List, [], ◌++◌, map, map-append, append_assoc, append
 use native.Mathlib.Omega.{arith}
 use lib.ListN.{length, length-append, length-map}
 use native.Mathlib.Nat.{zero-add}
+use Rattle.std.specs.Borrow.{Bor}
 use Rattle.std.specs.Prelude.{Option, Some, None}
 use Rattle.std.specs.Option.{is_some}
 use Rattle.format.specs.Bytes.{table, bytes_for, packed}
@@ -65,6 +66,6 @@ nothing-packed q p len h = rw (picks-none p len 0 (rw zero-add h))
 pub by-compress : (sel : Selection) (count : ℕ) (source : Source) → Compressed sel count (Some source) → (picked source ≡ selected sel) × (source.bits.len ≡ reach sel)
 by-compress Nothing count source h = absurd (none-some h)
 by-compress (Everything n) count source h = absurd (none-some h)
-by-compress (Words s) count source h = (ap₂ picks_by h.1 h.2, ap (λ (b : Bits). b.len) h.2)
-by-compress (Runs stored) count source h = (ap₂ picks_by h.1 h.2, ap (λ (b : Bits). b.len) h.2)
-by-compress (Rows stored) count source h = (ap₂ picks_by h.1 h.2, ap (λ (b : Bits). b.len) h.2)
+by-compress (Words s) count source h = (ap₂ (λ (s : Bor (List ℕ)) (b : Bits). picks_by s.now b) h.1 h.2, ap (λ (b : Bits). b.len) h.2)
+by-compress (Runs stored) count source h = (ap₂ (λ (s : Bor (List ℕ)) (b : Bits). picks_by s.now b) h.1 h.2, ap (λ (b : Bits). b.len) h.2)
+by-compress (Rows stored) count source h = (ap₂ (λ (s : Bor (List ℕ)) (b : Bits). picks_by s.now b) h.1 h.2, ap (λ (b : Bits). b.len) h.2)

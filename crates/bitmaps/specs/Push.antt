@@ -1,4 +1,5 @@
 -- A bitmap that is being written: full words stand in the output, and fewer than 64 bits wait ("spare bits 0"). Assumes nothing.
+use Rattle.std.specs.Borrow.{Bor}
 use Rattle.std.specs.Prelude.{ℕ, ◌+◌, ◌*◌, ◌/◌, ◌≡◌, ◌≤◌, Bool, true, false, List, ◌++◌, length, map, Option, MatchOption, None}
 use Rattle.format.specs.Bytes.{bit_in}
 use Rattle.format.specs.Write.{numbers}
@@ -39,12 +40,12 @@ abbrev pub bits_of : Column → List ℕ → List Bool
 bits_of column rows = map (bit_from column.values.now column.from) rows
 
 -- the source that a bitmap column is compressed by, or none where it goes by the selection's runs or rows (docs/FORMAT.md, 6)
-abbrev pub Unless : Bool → List ℕ → Bits → Option Source → Type 0
-Unless goes s b r = MatchOption r (goes ≡ true) (λ source. (goes ≡ false) × (source.bytes.now ≡ s) × (source.bits ≡ b))
+abbrev pub Unless : Bool → Bor (List ℕ) → Bits → Option Source → Type 0
+Unless goes s b r = MatchOption r (goes ≡ true) (λ source. (goes ≡ false) × (source.bytes ≡ s) × (source.bits ≡ b))
 
 abbrev pub Compressed : Selection → ℕ → Option Source → Type 0
 Compressed Nothing count r = r ≡ None
 Compressed (Everything n) count r = r ≡ None
-Compressed (Words source) count r = Unless (by_route source.bits.len count false) source.bytes.now source.bits r
-Compressed (Runs stored) count r = Unless (by_route stored.bits.len count false) stored.bytes.now stored.bits r
-Compressed (Rows stored) count r = Unless (by_route stored.bits.len count true) stored.bytes.now stored.bits r
+Compressed (Words source) count r = Unless (by_route source.bits.len count false) source.bytes source.bits r
+Compressed (Runs stored) count r = Unless (by_route stored.bits.len count false) stored.bytes stored.bits r
+Compressed (Rows stored) count r = Unless (by_route stored.bits.len count true) stored.bytes stored.bits r
