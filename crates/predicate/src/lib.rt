@@ -3,11 +3,15 @@
 
 ghost use Rattle.std.specs.Prelude.{◌≡◌, ◌+◌, ◌-◌, ◌*◌, ◌/◌, ◌^◌, ◌<◌, ◌≤◌, [], length, get_or, drop, MatchOption, None};
 ghost use Rattle.std.specs.Iterator.{at_most};
+ghost use Rattle.std.specs.Option.{ForSome};
 ghost use Rattle.slots.specs.Slot.{slot_in};
+ghost use Rattle.predicate.specs.Entries.{entries_on};
 ghost use Rattle.predicate.specs.Selection.{Selects, reach};
 ghost use Rattle.predicate.specs.Blocks.{picks_on, Begun, InStep, Worded, GivesBlock, Found, Filled, NextRun, starts_long, as_runs};
 
 pub mod stored;
+#[cfg(test)]
+mod tests;
 
 use format::Route;
 use slots::Source;
@@ -238,12 +242,37 @@ impl<'a> Iterator for Blocks<'a> {
 }
 
 // The selection of a route over a source's slots, by the source's words.
-pub fn selection_of<'a>(route: Route, source: Source<'a>) -> Selection<'a>
+pub fn selection_by_words<'a>(route: Route, source: Source<'a>) -> Selection<'a>
     ensures { Selects route source.entry None result }
 {
     match route {
         Route::None => Selection::Nothing,
         Route::All => Selection::Everything(source.bits.len),
         Route::Slices | Route::Indices => Selection::Words(source),
+    }
+}
+
+// The same, or by the route's entries where a list holds them, all of them and no more.
+pub fn selection_of<'a>(route: Route, source: Source<'a>, list: Option<&'a [u32]>) -> Selection<'a>
+    requires stored { ForSome list (λ xs. xs.now ≡ entries_on route (slot_in source) source.bits.len) }
+    ensures { Selects route source.entry list.entry result }
+{
+    let Some(list) = list else {
+        return selection_by_words(route, source);
+    };
+    let Source { bytes, bits, .. } = source;
+    match route {
+        // No list is looked at.
+        Route::None | Route::All => selection_by_words(route, source),
+        Route::Slices => Selection::Runs(StoredRuns {
+            bytes,
+            bits,
+            ends: list,
+        }),
+        Route::Indices => Selection::Rows(StoredRows {
+            bytes,
+            bits,
+            rows: list,
+        }),
     }
 }

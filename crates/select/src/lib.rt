@@ -16,7 +16,7 @@ ghost use Rattle.select.specs.Routed.{Goes, Few, Ready};
 use format::{Kind, Route};
 use nesting::Counted;
 use predicate::stored::{StoredRows, StoredRuns};
-use predicate::{Selection, selection_of};
+use predicate::{Selection, selection_by_words};
 use regions::Regions;
 use slots::Source;
 use stored_list::store_list;
@@ -133,6 +133,6 @@ pub fn select_and_write(
         write_listed(counted, route, list, scratch, output);
         return;
     }
-    let sel = selection_of(route, source);
+    let sel = selection_by_words(route, source);
     fill_and_write(counted, sel, scratch, output);
 }

@@ -24,7 +24,7 @@ returns-then-few c = let w = c.write_few.ensures in (w.0, w.1, rw (c.few.ensures
 pub fill_and_write-requires : goal.fill_and_write-requires
 fill_and_write-requires c =
     let q = c.requires in
-    let h = c.selection_of-sel.ensures in
+    let h = c.selection_by_words-sel.ensures in
     record { selects = (selects q.goes _ _ h, omega (arith, reach-of _ _ _ _ h, q.ready.long), sourced-of _ _ _ _ h); ready = q.ready }
 
 pub returns : goal.returns
