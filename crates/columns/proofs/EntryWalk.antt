@@ -15,7 +15,7 @@ use Rattle.predicate.specs.Selection.{selected, reach}
 use Rattle.predicate.specs.Blocks.{block_rows, GivesBlock}
 use Rattle.append.specs.Cells.{entries_of, Among, Entries}
 use Rattle.append.proofs.CellLaws.{entries_none, entries-append}
-use Rattle.columns.proofs.Walk.{Cuts, Walked, walk-room, among}
+use Rattle.columns.proofs.Walk.{Cuts, Walked, walk-room, among-on}
 
 pub entries-cut : (w : ℕ) (b : List ℕ) (first : ℕ) → Cuts (entries_of w b first)
 entries-cut w b first = record { none = entries_none w b first [] refl; parts = entries-append w b first }
@@ -30,4 +30,4 @@ module _ {w : ℕ} {b : List ℕ} {first : ℕ} {sel : Selection} {old : List �
 
   pub block-needs : {block : Block} → GivesBlock s (Some block) t
       → Among (Entries w b first) (block_rows block) × (here + length (entries_of w b first (block_rows block)) ≤ length new)
-  block-needs g = (among k.same k.step g h, walk-room k (entries-cut w b first) g fit)
+  block-needs g = (among-on k.same k.step g h, walk-room k (entries-cut w b first) g fit)

@@ -10,8 +10,8 @@ use Rattle.predicate.specs.declared.Selection.{Selection}
 use Rattle.predicate.specs.declared.Block.{Block}
 use Rattle.predicate.specs.declared.Blocks.{Blocks}
 use Rattle.predicate.specs.Selection.{selected, reach}
-use Rattle.predicate.specs.Blocks.{block_rows, rows_left, InStep, Begun, GivesBlock}
-use Rattle.predicate.proofs.Steps.{rows-start, step-start, block-below}
+use Rattle.predicate.specs.Blocks.{block_rows, rows_left, GoesOn, InStep, Begun, GivesBlock}
+use Rattle.predicate.proofs.Steps.{rows-start, goes-start, step-start, next-goes-below, block-below}
 use Rattle.append.specs.Cells.{Among}
 
 -- the bytes of rows are those of the first rows, and then those of the others
@@ -22,16 +22,20 @@ pub record Cuts (f : List ℕ → List ℕ) : Type 0 where
 -- of the bytes f of all kept rows, those of the rows that the blocks have yet to give are left to write
 pub record Walked (f : List ℕ → List ℕ) (sel : Selection) (old : List ℕ) (at : ℕ) (new : List ℕ) (here : ℕ) (s : Blocks) : Type 0 where
   pub same : s.sel ≡ sel
-  pub step : InStep s
+  pub step : GoesOn s
+  pub stands : InStep s
   pub left : Left old at (f (selected sel)) new here (f (rows_left s))
 
 -- a block's rows are among all rows
+pub among-on : {P : ℕ → Type 0} {sel : Selection} {s t : Blocks} {block : Block} → s.sel ≡ sel → GoesOn s → GivesBlock s (Some block) t → P (reach sel) → Among P (block_rows block)
+among-on {sel = sel} same step g h = record { len = reach sel; below = rw (← same) (next-goes-below step g); holds = h }
+
 pub among : {P : ℕ → Type 0} {sel : Selection} {s t : Blocks} {block : Block} → s.sel ≡ sel → InStep s → GivesBlock s (Some block) t → P (reach sel) → Among P (block_rows block)
 among {sel = sel} same step g h = record { len = reach sel; below = rw (← same) (block-below step g); holds = h }
 
 module _ {f : List ℕ → List ℕ} {sel : Selection} {old : List ℕ} {at : ℕ} where
   pub walk_none : {s : Blocks} → Begun sel s → Walked f sel old at old at s
-  walk_none b = record { same = b.0; step = step-start b; left = whole refl (ap f (rows-start b)) }
+  walk_none b = record { same = b.0; step = goes-start b; stands = step-start b; left = whole refl (ap f (rows-start b)) }
 
   module _ {new : List ℕ} {here : ℕ} {s : Blocks} (w : Walked f sel old at new here s) where
     module _ (cut : Cuts f) {block : Block} {t : Blocks} (g : GivesBlock s (Some block) t) where
@@ -43,8 +47,8 @@ module _ {f : List ℕ → List ℕ} {sel : Selection} {old : List ℕ} {at : �
       walk-room fit = room (f (block_rows block)) (f (rows_left t)) w.left off fit
 
       -- and were written
-      pub walk_more : {last : List ℕ} {next : ℕ} → InStep t → Wrote new here (f (block_rows block)) last next → Walked f sel old at last next t
-      walk_more step wrote = record { same = g.same ∙ w.same; step = step; left = less w.left off wrote }
+      pub walk_more : {last : List ℕ} {next : ℕ} → GoesOn t → Wrote new here (f (block_rows block)) last next → Walked f sel old at last next t
+      walk_more step wrote = record { same = g.same ∙ w.same; step = step; stands = g.stays w.stands; left = less w.left off wrote }
 
     -- all that is left fits
     pub walk-fits : at + length (f (selected sel)) ≤ length old → here + length (f (rows_left s)) ≤ length new

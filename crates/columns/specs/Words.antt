@@ -3,14 +3,15 @@ use Rattle.std.specs.Prelude.{ℕ, ◌+◌, ◌-◌, ◌*◌, ◌≤◌, Bool, L
 use Rattle.format.specs.Put.{Wrote}
 use Rattle.format.specs.Slots.{picks_from}
 use Rattle.predicate.specs.declared.Blocks.{Blocks}
-use Rattle.predicate.specs.Blocks.{kept_by, InStep}
+use Rattle.predicate.specs.Blocks.{kept_by, GoesOn, InStep}
 use Rattle.append.specs.Cells.{word_rows}
 
--- the bytes f of the rows kept from the place of s up to that of t were written
+-- the bytes f of the rows kept from the place of s up to that of t were written; blocks in step stay so
 pub record Passed (f : List ℕ → List ℕ) (s : Blocks) (old : List ℕ) (at : ℕ) (new : List ℕ) (next : ℕ) (t : Blocks) : Type 0 where
   pub same : t.sel ≡ s.sel
   pub on : s.place ≤ t.place
-  pub step : InStep t
+  pub step : GoesOn t
+  pub stays : InStep s → InStep t
   pub wrote : Wrote old at (f (picks_from (kept_by s.sel) (t.place - s.place) s.place)) new next
 
 -- at the front of xs stand n words of the slots that pass p, from word `from` on: the rows at their set bits are those picked

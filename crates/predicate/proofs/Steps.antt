@@ -8,13 +8,16 @@ use Rattle.format.specs.Slots.{after, word_from, picks_from, runs_from, count_up
 use Rattle.format.proofs.Numbers.{bytes-none, length-bytes}
 use Rattle.format.proofs.RowLaws.{set-from, below_left, below-picks, list-more}
 use Rattle.format.proofs.SlotLaws.{all_none, picks-all, picks-none}
+use Rattle.slots.specs.Source.{slot_of}
+use Rattle.predicate.specs.declared.stored.StoredRuns.{StoredRuns}
+use Rattle.predicate.specs.declared.stored.StoredRows.{StoredRows}
 use Rattle.predicate.specs.declared.Selection.{Selection}
 use Rattle.predicate.specs.declared.Selection.TheVariants.{Nothing, Everything, Words, Runs, Rows}
 use Rattle.predicate.specs.declared.Block.{Block}
 use Rattle.predicate.specs.declared.Block.TheVariants.{Run, Word, Listed}
 use Rattle.predicate.specs.declared.Blocks.{Blocks}
 use Rattle.predicate.specs.Selection.{selected, reach}
-use Rattle.predicate.specs.Blocks.{kept_by, picks_on, edges_on, block_rows, rows_left, Lists, Agrees, Inside, InStep, Begun, Within, OfWords, Leaves, GivesBlock}
+use Rattle.predicate.specs.Blocks.{kept_by, picks_on, edges_on, block_rows, rows_left, Lists, HasLeft, Inside, GoesOn, Agrees, InStep, Begun, Within, OfWords, Leaves, GivesBlock}
 use Rattle.predicate.proofs.Picks.{picks_start, edges-start, picks-span, picks-end, picks-over, picks-upto, picks-word, picks-head, edges-head, edges-empty}
 
 -- ---- at the start
@@ -24,12 +27,22 @@ whole : (xs : List ℕ) → bytes_at xs 0 (length xs - 0) ≡ xs
 unfolding bytes_at
 whole xs = rw sub-zero (take_all _ xs (omega arith))
 
+runs-start : (stored : StoredRuns) {place index : ℕ} → place ≡ 0 → index ≡ 0 → Lists stored.ends.now index (edges_on (slot_of stored.bytes.now stored.bits) stored.bits.len place)
+runs-start stored p i = rw (p, i) (record { room = omega arith; entries = whole stored.ends.now ∙ stored.holds ∙ sym (edges-start _ stored.bits.len) })
+
+has-start : (sel : Selection) {place index : ℕ} → place ≡ 0 → index ≡ 0 → HasLeft sel place index
+has-start Nothing p i = tt
+has-start (Everything n) p i = tt
+has-start (Words source) p i = tt
+has-start (Runs stored) p i = runs-start stored p i
+has-start (Rows stored) p i = rw (p, i) (record { room = omega arith; entries = whole stored.rows.now ∙ stored.holds ∙ sym (picks_start _ stored.bits.len) })
+
 agrees-start : (sel : Selection) {place index : ℕ} → place ≡ 0 → index ≡ 0 → Agrees sel place index
 agrees-start Nothing p i = tt
 agrees-start (Everything n) p i = tt
 agrees-start (Words source) p i = tt
-agrees-start (Runs stored) p i = rw (p, i) (record { room = omega arith; entries = whole stored.ends.now ∙ stored.holds ∙ sym (edges-start _ stored.bits.len) })
-agrees-start (Rows stored) p i = rw (p, i) (record { room = omega arith; entries = whole stored.rows.now ∙ stored.holds ∙ sym (picks_start _ stored.bits.len) })
+agrees-start (Runs stored) p i = runs-start stored p i
+agrees-start (Rows stored) p i = λ _. p
 
 inside-start : (sel : Selection) {place : ℕ} → place ≡ 0 → Inside sel place
 inside-start Nothing p = tt
@@ -38,8 +51,11 @@ inside-start (Words source) p = omega arith
 inside-start (Runs stored) p = omega arith
 inside-start (Rows stored) p = omega arith
 
+pub goes-start : {sel : Selection} {r : Blocks} → Begun sel r → GoesOn r
+goes-start {sel} {r} b = record { inside = inside-start r.sel b.1; agrees = has-start r.sel b.1 b.2 }
+
 pub step-start : {sel : Selection} {r : Blocks} → Begun sel r → InStep r
-step-start {sel} {r} b = record { inside = inside-start r.sel b.1; agrees = agrees-start r.sel b.1 b.2 }
+step-start {sel} {r} b = record { inside = omega (arith, b.1); agrees = agrees-start r.sel b.1 b.2 }
 
 -- what is left is all of the selection
 selected-left : (sel : Selection) → picks_on (kept_by sel) (reach sel) 0 ≡ selected sel
@@ -128,9 +144,9 @@ module _ (p : ℕ → Bool) (len place : ℕ) {list : List ℕ} {index : ℕ} (g
 
   -- those that are left are all given at once, some row
   module _ (inside : place ≤ len) (l : index < length list) where
-    pub list-gives : Leaves p len place (drop index list) len
+    pub list-leaves : Leaves p len place (drop index list) len
     unfolding bytes_at
-    list-gives =
+    list-leaves =
         let first = picks-head inside (sym g.entries ∙ list-more list (length list) index (index + 1) l (omega arith) refl) in
         let low = first.low in
         let high = first.high in
@@ -139,6 +155,16 @@ module _ (p : ℕ → Bool) (len place : ℕ) {list : List ℕ} {index : ℕ} (g
 
     pub list-lists : Lists list (length list) (picks_on p len len)
     list-lists = record { room = omega arith; entries = rw (picks-over p len len (omega arith)) (bytes-none _ _ _ (omega arith)) }
+
+-- all of them from the first on
+pub list-gives : (stored : StoredRows) (place : ℕ) →
+    let p = slot_of stored.bytes.now stored.bits in
+    let len = stored.bits.len in
+    place ≡ 0 → picks_on p len place ≡ stored.rows.now ++ picks_on p len len
+list-gives stored place z =
+    let p = slot_of stored.bytes.now stored.bits in
+    let len = stored.bits.len in
+    rw (z, picks-over p len len (omega arith), append-nil) (picks_start p len ∙ sym stored.holds)
 
 -- ---- the words of a source
 
@@ -162,8 +188,12 @@ below-reach (Words source) place h = below-picks (kept_by (Words source)) _ (sou
 below-reach (Runs stored) place h = below-picks (kept_by (Runs stored)) _ (stored.bits.len - place) place (omega arith)
 below-reach (Rows stored) place h = below-picks (kept_by (Rows stored)) _ (stored.bits.len - place) place (omega arith)
 
+pub goes-below : (s : Blocks) → GoesOn s → Below (reach s.sel) (rows_left s)
+goes-below s h = below-reach s.sel s.place h.inside
+
 pub left-below : (s : Blocks) → InStep s → Below (reach s.sel) (rows_left s)
-left-below s h = below-reach s.sel s.place h.inside
+unfolding picks_on
+left-below s h = below-picks (kept_by s.sel) (reach s.sel) (reach s.sel - s.place) s.place (omega (arith, h.inside))
 
 -- what is left up to a further place, and from there on
 upto-reach : (sel : Selection) (from to : ℕ) → from ≤ to → Inside sel to → picks_on (kept_by sel) (reach sel) from ≡ picks_from (kept_by sel) (to - from) from ++ picks_on (kept_by sel) (reach sel) to
@@ -173,9 +203,15 @@ upto-reach (Words source) from to l h = picks-upto (kept_by (Words source)) _ fr
 upto-reach (Runs stored) from to l h = picks-upto (kept_by (Runs stored)) _ from to l h
 upto-reach (Rows stored) from to l h = picks-upto (kept_by (Rows stored)) _ from to l h
 
-pub left-upto : (s t : Blocks) → t.sel ≡ s.sel → s.place ≤ t.place → InStep t → rows_left s ≡ picks_from (kept_by s.sel) (t.place - s.place) s.place ++ rows_left t
+pub left-upto : (s t : Blocks) → t.sel ≡ s.sel → s.place ≤ t.place → GoesOn t → rows_left s ≡ picks_from (kept_by s.sel) (t.place - s.place) s.place ++ rows_left t
 left-upto s t same l h = rw same (upto-reach s.sel s.place t.place l (rw same at h.inside))
 
 -- so do those of the next block
+next-below : {s t : Blocks} {block : Block} → Below (reach s.sel) (rows_left s) → GivesBlock s (Some block) t → Below (reach s.sel) (block_rows block)
+next-below {s} {t} {block} h g = below_left (block_rows block) (rows_left t) (rw g.gives.1 at h)
+
+pub next-goes-below : {s t : Blocks} {block : Block} → GoesOn s → GivesBlock s (Some block) t → Below (reach s.sel) (block_rows block)
+next-goes-below {s} h g = next-below (goes-below s h) g
+
 pub block-below : {s t : Blocks} {block : Block} → InStep s → GivesBlock s (Some block) t → Below (reach s.sel) (block_rows block)
-block-below {s} {t} {block} h g = below_left (block_rows block) (rows_left t) (rw g.gives.1 at (left-below s h))
+block-below {s} h g = next-below (left-below s h) g

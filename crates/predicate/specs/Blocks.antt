@@ -45,12 +45,12 @@ pub record Lists (list : List ℕ) (index : ℕ) (xs : List ℕ) : Type 0 where
   pub entries : bytes_at list index (length list - index) ≡ xs
 
 -- what a stored list has yet to give is what its bits pick from the place on
-abbrev pub Agrees : Selection → ℕ → ℕ → Type 0
-Agrees sel.Nothing place index = Unit {0}
-Agrees (sel.Everything n) place index = Unit {0}
-Agrees (sel.Words source) place index = Unit {0}
-Agrees (sel.Runs stored) place index = Lists stored.ends.now index (edges_on (slot_of stored.bytes.now stored.bits) stored.bits.len place)
-Agrees (sel.Rows stored) place index = Lists stored.rows.now index (picks_on (slot_of stored.bytes.now stored.bits) stored.bits.len place)
+abbrev pub HasLeft : Selection → ℕ → ℕ → Type 0
+HasLeft sel.Nothing place index = Unit {0}
+HasLeft (sel.Everything n) place index = Unit {0}
+HasLeft (sel.Words source) place index = Unit {0}
+HasLeft (sel.Runs stored) place index = Lists stored.ends.now index (edges_on (slot_of stored.bytes.now stored.bits) stored.bits.len place)
+HasLeft (sel.Rows stored) place index = Lists stored.rows.now index (picks_on (slot_of stored.bytes.now stored.bits) stored.bits.len place)
 
 -- a place among the rows, or behind the last of them; where none is kept, any
 abbrev pub Inside : Selection → ℕ → Type 0
@@ -60,8 +60,22 @@ Inside (sel.Words source) place = place ≤ source.bits.len
 Inside (sel.Runs stored) place = place ≤ stored.bits.len
 Inside (sel.Rows stored) place = place ≤ stored.bits.len
 
-pub record InStep (s : Blocks) : Type 0 where
+-- from here blocks can be asked for, whether those before were blocks or not
+pub record GoesOn (s : Blocks) : Type 0 where
   pub inside : Inside s.sel s.place
+  pub agrees : HasLeft s.sel s.place s.index
+
+-- what a list of runs has yet to give is what its bits pick from the place on; a list of rows gives all of them at once
+abbrev pub Agrees : Selection → ℕ → ℕ → Type 0
+Agrees sel.Nothing place index = Unit {0}
+Agrees (sel.Everything n) place index = Unit {0}
+Agrees (sel.Words source) place index = Unit {0}
+Agrees (sel.Runs stored) place index = Lists stored.ends.now index (edges_on (slot_of stored.bytes.now stored.bits) stored.bits.len place)
+Agrees (sel.Rows stored) place index = place < stored.bits.len → place ≡ 0
+
+-- where blocks stand that are asked for from the start on
+pub record InStep (s : Blocks) : Type 0 where
+  pub inside : s.place ≤ reach s.sel
   pub agrees : Agrees s.sel s.place s.index
 
 abbrev pub Begun : Selection → Blocks → Type 0
@@ -91,9 +105,10 @@ OfWords len (Listed rows) = ⊥
 abbrev pub Worded : (ℕ → Bool) → ℕ → ℕ → Block × ℕ → Type 0
 Worded p len from r = OfWords len r.0 × Leaves p len from (block_rows r.0) r.1
 
--- what a call of `next` gives: the first block of what is left; or nothing, where no row is left
+-- what a call of `next` gives: the first block of what is left; or nothing, where no row is left. Blocks in step stay so
 pub record GivesBlock (s : Blocks) (r : Option Block) (t : Blocks) : Type 0 where
   pub same : t.sel ≡ s.sel
+  pub stays : InStep s → InStep t
   pub gives : MatchOption r (rows_left s ≡ []) (λ block. Within (reach s.sel) block × (rows_left s ≡ block_rows block ++ rows_left t))
 
 -- no row from `from` up to word w is picked, and x is what is left of that word: some row

@@ -7,7 +7,7 @@ ghost use Rattle.std.specs.Option.{ForSome};
 ghost use Rattle.slots.specs.Slot.{slot_in};
 ghost use Rattle.predicate.specs.Entries.{entries_on};
 ghost use Rattle.predicate.specs.Selection.{Selects, reach};
-ghost use Rattle.predicate.specs.Blocks.{picks_on, Begun, InStep, Worded, GivesBlock, Found, Filled, NextRun, starts_long, as_runs};
+ghost use Rattle.predicate.specs.Blocks.{picks_on, Begun, GoesOn, InStep, Worded, GivesBlock, Found, Filled, NextRun, starts_long, as_runs};
 
 pub mod stored;
 #[cfg(test)]
@@ -182,6 +182,7 @@ impl<'a> Blocks<'a> {
     pub fn new(sel: Selection<'a>) -> Blocks<'a>
         ensures begun { Begun sel.entry result }
         ensures in_step { InStep result }
+        ensures goes_on { GoesOn result }
     {
         Blocks {
             sel,
@@ -194,7 +195,7 @@ impl<'a> Blocks<'a> {
 impl<'a> Iterator for Blocks<'a> {
     type Item = Block<'a>;
 
-    ghost can_next = { InStep };
+    ghost can_next = { GoesOn };
 
     ghost next_gives = { GivesBlock };
 

@@ -3,9 +3,9 @@ use Rattle.std.proofs.Common.{◌≡◌, ℕ, ◌+◌, ◌<◌, ◌≤◌, lengt
 use Rattle.slots.specs.Source.{slot_of}
 use Rattle.predicate.specs.declared.Blocks.{Blocks}
 use Rattle.predicate.specs.Selection.{reach}
-use Rattle.predicate.specs.Blocks.{InStep, Lists, picks_on, edges_on}
+use Rattle.predicate.specs.Blocks.{GoesOn, InStep, Lists, picks_on, edges_on}
 use Rattle.predicate.proofs.Picks.{picks-over}
-use Rattle.predicate.proofs.Steps.{all-gives, run_fits, run-within, run-gives, run-lists, run-over, list-over, list-gives, list-lists, within}
+use Rattle.predicate.proofs.Steps.{all-gives, run_fits, run-within, run-gives, run-lists, run-over, list-over, list-leaves, list-lists, within}
 use Rattle.predicate.proofs.BlocksIterator.next.Goals as goal
 use Rattle.predicate.proofs.BlocksIterator.next.Goals.{In-Runs, In-Rows, Else-stored-self}
 
@@ -30,21 +30,31 @@ fits : (c : Else-stored-self) → c.args.self.now.index + 1 < length c.in-Runs.s
 fits c = run_fits _ _ _ (lists (goal.at.Else-stored-self c).In-Runs) (omega arith)
 
 pub returns-in-Nothing-clause-steps : goal.returns-in-Nothing-clause-steps
-returns-in-Nothing-clause-steps c = record { same = refl; gives = rw c.in-Nothing.is (picks-over _ _ _ (omega arith)) }
+returns-in-Nothing-clause-steps c = record { same = refl; stays = λ h. h; gives = rw c.in-Nothing.is (picks-over _ _ _ (omega arith)) }
 
 pub returns-then-n-self-clause-steps : goal.returns-then-n-self-clause-steps
-returns-then-n-self-clause-steps c = record { same = refl; gives = rw c.in-Everything.is (picks-over _ _ _ (omega arith)) }
+returns-then-n-self-clause-steps c = record { same = refl; stays = λ h. h; gives = rw c.in-Everything.is (picks-over _ _ _ (omega arith)) }
 
 pub returns-else-n-self-clause-steps : goal.returns-else-n-self-clause-steps
-returns-else-n-self-clause-steps c = record { same = refl; gives = ((omega arith, rw c.in-Everything.is (omega arith)), rw c.in-Everything.is (all-gives _ _ (omega arith))) }
+returns-else-n-self-clause-steps c =
+    record {
+      same = refl;
+      stays = λ h. record { inside = rw c.in-Everything.is (omega arith); agrees = rw c.in-Everything.is tt };
+      gives = ((omega arith, rw c.in-Everything.is (omega arith)), rw c.in-Everything.is (all-gives _ _ (omega arith)));
+    }
 
 pub returns-then-stored-self-clause-steps : goal.returns-then-stored-self-clause-steps
-returns-then-stored-self-clause-steps c = record { same = refl; gives = rw c.in-Runs.is (run-over _ _ _ (lists (goal.at.returns-then-stored-self-clause-steps c).In-Runs) (omega arith)) }
+returns-then-stored-self-clause-steps c = record { same = refl; stays = λ h. h; gives = rw c.in-Runs.is (run-over _ _ _ (lists (goal.at.returns-then-stored-self-clause-steps c).In-Runs) (omega arith)) }
 
 pub returns-else-stored-self-clause-steps : goal.returns-else-stored-self-clause-steps
 returns-else-stored-self-clause-steps c =
     let g = lists (goal.at.returns-else-stored-self-clause-steps c).In-Runs in
-    rw c.run_at-a.ensures.run record { same = refl; gives = (rw c.in-Runs.is (run-within _ _ _ g (omega arith)), rw c.in-Runs.is (run-gives _ _ _ g (omega arith)).rest) }
+    rw c.run_at-a.ensures.run
+    record {
+      same = refl;
+      stays = λ h. record { inside = rw c.in-Runs.is (run-within _ _ _ g (omega arith)).1; agrees = rw c.in-Runs.is (run-lists _ _ _ g (omega arith)) };
+      gives = (rw c.in-Runs.is (run-within _ _ _ g (omega arith)), rw c.in-Runs.is (run-gives _ _ _ g (omega arith)).rest);
+    }
 
 pub returns-else-stored-self-clause-goes : goal.returns-else-stored-self-clause-goes
 returns-else-stored-self-clause-goes c =
@@ -54,11 +64,11 @@ returns-else-stored-self-clause-goes c =
     let t : Blocks = record { sel = s.sel; place = e; index = s.index + 2 } in
     let moves : s.place < e = (run-gives _ _ _ g (omega arith)).moves in
     let high : e ≤ reach s.sel = rw c.in-Runs.is (run-within _ _ _ g (omega arith)).1 in
-    let step : InStep t = record { inside = rw c.in-Runs.is (run-within _ _ _ g (omega arith)).1; agrees = rw c.in-Runs.is (run-lists _ _ _ g (omega arith)) } in
+    let step : GoesOn t = record { inside = rw c.in-Runs.is (run-within _ _ _ g (omega arith)).1; agrees = rw c.in-Runs.is (run-lists _ _ _ g (omega arith)) } in
     rw c.run_at-a.ensures.run record { on = λ _. (step, tt, omega arith); keeps = step; rests = λ _. tt }
 
 pub returns-then-stored-self-2-clause-steps : goal.returns-then-stored-self-2-clause-steps
-returns-then-stored-self-2-clause-steps c = record { same = refl; gives = rw c.in-Rows.is (list-over _ _ _ (listed (goal.at.returns-then-stored-self-2-clause-steps c).In-Rows) (omega arith)) }
+returns-then-stored-self-2-clause-steps c = record { same = refl; stays = λ h. h; gives = rw c.in-Rows.is (list-over _ _ _ (listed (goal.at.returns-then-stored-self-2-clause-steps c).In-Rows) (omega arith)) }
 
 pub run_at-a-requires : goal.run_at-a-requires
 run_at-a-requires c = fits (goal.at.run_at-a-requires c).Else-stored-self
@@ -72,8 +82,12 @@ rows_from-rows-requires c = omega arith
 pub returns-else-stored-self-2-clause-steps : goal.returns-else-stored-self-2-clause-steps
 returns-else-stored-self-2-clause-steps c =
     let r = (goal.at.returns-else-stored-self-2-clause-steps c).In-Rows in
-    let g = list-gives _ _ _ (listed r) (inside r) (omega arith) in
-    record { same = refl; gives = (tt, rw (c.in-Rows.is, c.rows_from-rows.ensures) g.rest) }
+    let g = list-leaves _ _ _ (listed r) (inside r) (omega arith) in
+    record {
+      same = refl;
+      stays = λ h. record { inside = rw c.in-Rows.is (omega arith); agrees = rw c.in-Rows.is (λ l. absurd (omega arith)) };
+      gives = (tt, rw (c.in-Rows.is, c.rows_from-rows.ensures) g.rest);
+    }
 
 pub returns-else-stored-self-2-clause-goes : goal.returns-else-stored-self-2-clause-goes
 returns-else-stored-self-2-clause-goes c =
@@ -81,7 +95,7 @@ returns-else-stored-self-2-clause-goes c =
     let s = c.args.self.now in
     let stored = c.in-Rows.stored in
     let t : Blocks = record { sel = s.sel; place = stored.bits.len; index = length stored.rows.now } in
-    let moves : s.place < stored.bits.len = (list-gives _ _ _ (listed r) (inside r) (omega arith)).moves in
+    let moves : s.place < stored.bits.len = (list-leaves _ _ _ (listed r) (inside r) (omega arith)).moves in
     let reached : reach s.sel ≡ stored.bits.len = rw c.in-Rows.is refl in
-    let step : InStep t = record { inside = rw c.in-Rows.is (omega arith); agrees = rw c.in-Rows.is (list-lists _ _ _ (listed r) (inside r) (omega arith)) } in
+    let step : GoesOn t = record { inside = rw c.in-Rows.is (omega arith); agrees = rw c.in-Rows.is (list-lists _ _ _ (listed r) (inside r) (omega arith)) } in
     record { on = λ _. (step, tt, omega arith); keeps = step; rests = λ _. tt }
