@@ -17,8 +17,7 @@ use Rattle.slots.specs.Slot.{slot_in}
 use Rattle.predicate.specs.declared.Selection.{Selection}
 use Rattle.predicate.specs.declared.Selection.TheVariants.{Words}
 use Rattle.predicate.specs.declared.Blocks.{Blocks}
-use Rattle.predicate.specs.Selection.{reach}
-use Rattle.predicate.specs.Blocks.{kept_by, picks_on, rows_left, GoesOn, Ran}
+use Rattle.predicate.specs.Blocks.{kept_by, picks_on, Ran}
 use Rattle.predicate.proofs.Picks.{picks-run, picks-upto}
 use Rattle.predicate.proofs.Steps.{left-upto}
 use Rattle.append.specs.Cells.{word_rows, Among}
@@ -36,8 +35,8 @@ pub record Passing (f : List ℕ → List ℕ) (p : ℕ → Bool) (len place : �
 nothing : {f : List ℕ → List ℕ} (cut : Cuts f) (p : ℕ → Bool) (n i : ℕ) {old : List ℕ} {at : ℕ} → n ≡ 0 → Wrote old at (f (picks_from p n i)) old at
 nothing {f} cut p n i e = none (ap f (picks-none p n i (all_none (omega arith))) ∙ cut.none) refl
 
-pub pass-nothing : {f : List ℕ → List ℕ} {s : Blocks} {old : List ℕ} {at : ℕ} → Cuts f → GoesOn s → Passed f s old at old at s
-pass-nothing {s = s} cut h = record { same = refl; on = le_refl s.place; step = h; stays = λ g. g; wrote = nothing cut (kept_by s.sel) _ _ (omega arith) }
+pub pass-nothing : {f : List ℕ → List ℕ} {s : Blocks} {old : List ℕ} {at : ℕ} → Cuts f → Passed f s old at old at s
+pass-nothing {s = s} cut = record { same = refl; on = le_refl s.place; step = λ h. h; stays = λ h. h; wrote = nothing cut (kept_by s.sel) _ _ (omega arith) }
 
 pub pass-none : {f : List ℕ → List ℕ} {p : ℕ → Bool} {len place to : ℕ} {old : List ℕ} {at : ℕ} → Cuts f → to ≡ place → place ≤ len → Passing f p len place old at old at to
 pass-none {p = p} cut e h = record { low = omega arith; high = omega arith; wrote = nothing cut p _ _ (omega arith) }
@@ -109,7 +108,7 @@ pass-done {t = t} is same k =
     record {
       same = same;
       on = low;
-      step = record { inside = rw words k.high; agrees = rw words tt };
+      step = λ h. record { inside = rw words k.high; agrees = rw words tt };
       stays = λ h. record { inside = rw words k.high; agrees = rw words tt };
       wrote = rw is k.wrote;
     }
@@ -119,4 +118,5 @@ pass-done {t = t} is same k =
 pub walk-on : {f : List ℕ → List ℕ} (cut : Cuts f) {sel : Selection} {old : List ℕ} {at : ℕ} {new : List ℕ} {here : ℕ} {s : Blocks} → Walked f sel old at new here s
     → {last : List ℕ} {next : ℕ} {t : Blocks} → Passed f s new here last next t → Walked f sel old at last next t
 walk-on {f} cut {s = s} w {t = t} q =
-    record { same = q.same ∙ w.same; step = q.step; stands = q.stays w.stands; left = less w.left (ap f (left-upto s t q.same q.on q.step) ∙ cut.parts _ _) q.wrote }
+    let step = q.step w.step in
+    record { same = q.same ∙ w.same; step = step; stands = q.stays w.stands; left = less w.left (ap f (left-upto s t q.same q.on step) ∙ cut.parts _ _) q.wrote }

@@ -6,11 +6,11 @@ use Rattle.predicate.specs.declared.Blocks.{Blocks}
 use Rattle.predicate.specs.Blocks.{kept_by, GoesOn, InStep}
 use Rattle.append.specs.Cells.{word_rows}
 
--- the bytes f of the rows kept from the place of s up to that of t were written; blocks in step stay so
+-- the bytes f of the rows kept from the place of s up to that of t were written; blocks that can go on still can, and those in step stay so
 pub record Passed (f : List ℕ → List ℕ) (s : Blocks) (old : List ℕ) (at : ℕ) (new : List ℕ) (next : ℕ) (t : Blocks) : Type 0 where
   pub same : t.sel ≡ s.sel
   pub on : s.place ≤ t.place
-  pub step : GoesOn t
+  pub step : GoesOn s → GoesOn t
   pub stays : InStep s → InStep t
   pub wrote : Wrote old at (f (picks_from (kept_by s.sel) (t.place - s.place) s.place)) new next
 

@@ -3,7 +3,7 @@
 ghost use Rattle.std.specs.Prelude.{◌+◌, ◌*◌, ◌≤◌, length};
 ghost use Rattle.slots.specs.Slot.{slot_in};
 ghost use Rattle.predicate.specs.Selection.{reach};
-ghost use Rattle.predicate.specs.Blocks.{GoesOn, rows_left};
+ghost use Rattle.predicate.specs.Blocks.{Inside, rows_left};
 ghost use Rattle.append.specs.Cells.{Entries};
 ghost use Rattle.gather.specs.Column.{entries_in};
 ghost use Rattle.columns.specs.Words.{Ahead, Passed};
@@ -37,7 +37,7 @@ fn words_ahead(source: Source, from: usize, words: &mut [u64]) -> usize
 // The entries of the kept rows from a word's start on, word after word, up to one that goes better as runs or is among the last two. None are
 // taken where the selection does not read the mask.
 pub fn pass_words(out: &mut [u8], at: usize, column: Column, blocks: &mut Blocks) -> usize
-    requires in_step { GoesOn blocks.old }
+    requires inside { Inside blocks.old.sel blocks.old.place }
     requires entries { Entries column.width column.src.now column.first (reach blocks.old.sel) }
     requires place_in_bounds { at + length (entries_in column (rows_left blocks.old)) ≤ length out.old }
     ensures { Passed (entries_in column.entry) blocks.old out.old at out.new result blocks.new }
@@ -71,7 +71,7 @@ const SHORT: usize = 8;
 // The entries of the kept rows from the next block's place on, run after run, up to a short one or the last two words: where nearly all rows are
 // kept, no block is asked for between the runs. One function for all widths, since a run is copied whole.
 pub fn pass_runs(out: &mut [u8], at: usize, column: Column, blocks: &mut Blocks) -> usize
-    requires in_step { GoesOn blocks.old }
+    requires inside { Inside blocks.old.sel blocks.old.place }
     requires entries { Entries column.width column.src.now column.first (reach blocks.old.sel) }
     requires place_in_bounds { at + length (entries_in column (rows_left blocks.old)) ≤ length out.old }
     ensures { Passed (entries_in column.entry) blocks.old out.old at out.new result blocks.new }

@@ -44,15 +44,19 @@ agrees-start (Words source) p i = tt
 agrees-start (Runs stored) p i = runs-start stored p i
 agrees-start (Rows stored) p i = λ _. p
 
-inside-start : (sel : Selection) {place : ℕ} → place ≡ 0 → Inside sel place
-inside-start Nothing p = tt
-inside-start (Everything n) p = omega arith
-inside-start (Words source) p = omega arith
-inside-start (Runs stored) p = omega arith
-inside-start (Rows stored) p = omega arith
+-- blocks in step stand among the rows
+inside-reach : (sel : Selection) {place : ℕ} → place ≤ reach sel → Inside sel place
+inside-reach Nothing h = tt
+inside-reach (Everything n) h = h
+inside-reach (Words source) h = h
+inside-reach (Runs stored) h = h
+inside-reach (Rows stored) h = h
+
+pub step-inside : {s : Blocks} → InStep s → Inside s.sel s.place
+step-inside {s} h = inside-reach s.sel h.inside
 
 pub goes-start : {sel : Selection} {r : Blocks} → Begun sel r → GoesOn r
-goes-start {sel} {r} b = record { inside = inside-start r.sel b.1; agrees = has-start r.sel b.1 b.2 }
+goes-start {sel} {r} b = record { inside = inside-reach r.sel (omega (arith, b.1)); agrees = has-start r.sel b.1 b.2 }
 
 pub step-start : {sel : Selection} {r : Blocks} → Begun sel r → InStep r
 step-start {sel} {r} b = record { inside = omega (arith, b.1); agrees = agrees-start r.sel b.1 b.2 }

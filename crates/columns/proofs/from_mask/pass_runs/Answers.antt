@@ -7,10 +7,10 @@ use Rattle.columns.proofs.Passing.{pass-nothing, pass-none, run_room, run_more}
 use Rattle.columns.proofs.from_mask.pass_runs.Goals as goal
 
 pub returns-in_default : goal.returns-in_default
-returns-in_default c = pass-nothing (entries-cut _ _ _) c.requires.in_step
+returns-in_default c = pass-nothing (entries-cut _ _ _)
 
 pub loop-place-init : goal.loop-place-init
-loop-place-init c = pass-none (entries-cut _ _ _) refl (rw c.in-Words.is at c.requires.in_step.inside)
+loop-place-init c = pass-none (entries-cut _ _ _) refl (rw c.in-Words.is at c.requires.inside)
 
 pub copy_rows-here-requires : goal.copy_rows-here-requires
 copy_rows-here-requires c =

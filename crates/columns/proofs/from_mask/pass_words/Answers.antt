@@ -6,13 +6,13 @@ use Rattle.columns.proofs.Passing.{pass-nothing, pass-none, pass-room, pass-amon
 use Rattle.columns.proofs.from_mask.pass_words.Goals as goal
 
 pub returns-in_default : goal.returns-in_default
-returns-in_default c = pass-nothing (entries-cut _ _ _) c.requires.in_step
+returns-in_default c = pass-nothing (entries-cut _ _ _)
 
 pub returns-then-blocks-ne0 : goal.returns-then-blocks-ne0
-returns-then-blocks-ne0 c = pass-nothing (entries-cut _ _ _) c.requires.in_step
+returns-then-blocks-ne0 c = pass-nothing (entries-cut _ _ _)
 
 pub loop-source-init : goal.loop-source-init
-loop-source-init c = pass-none (entries-cut _ _ _) (omega arith) (rw c.in-Words.is at c.requires.in_step.inside)
+loop-source-init c = pass-none (entries-cut _ _ _) (omega arith) (rw c.in-Words.is at c.requires.inside)
 
 pub gather_words-here-requires-clause-among : goal.gather_words-here-requires-clause-among
 gather_words-here-requires-clause-among c =

@@ -3,9 +3,9 @@ use Rattle.std.proofs.Common.{◌≡◌, ℕ, ◌+◌, ◌<◌, ◌≤◌, lengt
 use Rattle.slots.specs.Source.{slot_of}
 use Rattle.predicate.specs.declared.Blocks.{Blocks}
 use Rattle.predicate.specs.Selection.{reach}
-use Rattle.predicate.specs.Blocks.{GoesOn, InStep, Lists, picks_on, edges_on}
+use Rattle.predicate.specs.Blocks.{GoesOn, Lists, picks_on, edges_on}
 use Rattle.predicate.proofs.Picks.{picks-over}
-use Rattle.predicate.proofs.Steps.{all-gives, run_fits, run-within, run-gives, run-lists, run-over, list-over, list-leaves, list-lists, within}
+use Rattle.predicate.proofs.Steps.{all-gives, run_fits, run-within, run-gives, run-lists, run-over, list-over, list-leaves, list-lists}
 use Rattle.predicate.proofs.BlocksIterator.next.Goals as goal
 use Rattle.predicate.proofs.BlocksIterator.next.Goals.{In-Runs, In-Rows, Else-stored-self}
 
