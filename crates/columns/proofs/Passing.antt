@@ -17,13 +17,13 @@ use Rattle.slots.specs.Slot.{slot_in}
 use Rattle.predicate.specs.declared.Selection.{Selection}
 use Rattle.predicate.specs.declared.Selection.TheVariants.{Words}
 use Rattle.predicate.specs.declared.Blocks.{Blocks}
-use Rattle.predicate.specs.Blocks.{kept_by, picks_on, Ran}
+use Rattle.predicate.specs.Blocks.{kept_by, picks_on, Inside, Ran}
 use Rattle.predicate.proofs.Picks.{picks-run, picks-upto}
-use Rattle.predicate.proofs.Steps.{left-upto}
+use Rattle.predicate.proofs.Steps.{step-inside, left-to}
 use Rattle.append.specs.Cells.{word_rows, Among}
 use Rattle.append.proofs.CellLaws.{words-none, words_last}
 use Rattle.columns.specs.Words.{Ahead, Passed}
-use Rattle.columns.proofs.Walk.{Cuts, Walked}
+use Rattle.columns.proofs.Walk.{Cuts, WalkedBy, Walked, WalkedOn}
 
 -- the bytes f of the rows kept from `place` up to row `to` were written
 pub record Passing (f : List ℕ → List ℕ) (p : ℕ → Bool) (len place : ℕ) (old : List ℕ) (at : ℕ) (new : List ℕ) (here to : ℕ) : Type 0 where
@@ -115,8 +115,15 @@ pass-done {t = t} is same k =
 
 -- ---- for the loop over blocks
 
+walk-by : {Step : Blocks → Type 0} {f : List ℕ → List ℕ} (cut : Cuts f) {sel : Selection} {old : List ℕ} {at : ℕ} {new : List ℕ} {here : ℕ} {s : Blocks} → WalkedBy Step f sel old at new here s
+    → {last : List ℕ} {next : ℕ} {t : Blocks} → Passed f s new here last next t → Step t → Inside t.sel t.place → WalkedBy Step f sel old at last next t
+walk-by {f = f} cut {s = s} w {t = t} q step inside =
+    record { same = q.same ∙ w.same; step = step; left = less w.left (ap f (left-to s t q.same q.on inside) ∙ cut.parts _ _) q.wrote }
+
 pub walk-on : {f : List ℕ → List ℕ} (cut : Cuts f) {sel : Selection} {old : List ℕ} {at : ℕ} {new : List ℕ} {here : ℕ} {s : Blocks} → Walked f sel old at new here s
     → {last : List ℕ} {next : ℕ} {t : Blocks} → Passed f s new here last next t → Walked f sel old at last next t
-walk-on {f} cut {s = s} w {t = t} q =
-    let step = q.step w.step in
-    record { same = q.same ∙ w.same; step = step; stands = q.stays w.stands; left = less w.left (ap f (left-upto s t q.same q.on step) ∙ cut.parts _ _) q.wrote }
+walk-on cut w q = walk-by cut w q (q.stays w.step) (step-inside (q.stays w.step))
+
+pub walk-goes-on : {f : List ℕ → List ℕ} (cut : Cuts f) {sel : Selection} {old : List ℕ} {at : ℕ} {new : List ℕ} {here : ℕ} {s : Blocks} → WalkedOn f sel old at new here s
+    → {last : List ℕ} {next : ℕ} {t : Blocks} → Passed f s new here last next t → WalkedOn f sel old at last next t
+walk-goes-on cut w q = let step = q.step w.step in walk-by cut w q step step.inside

@@ -3,3 +3,5 @@
 
 pub mod from_mask;
 pub mod native;
+#[cfg(test)]
+mod tests;

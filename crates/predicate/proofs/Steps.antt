@@ -207,8 +207,11 @@ upto-reach (Words source) from to l h = picks-upto (kept_by (Words source)) _ fr
 upto-reach (Runs stored) from to l h = picks-upto (kept_by (Runs stored)) _ from to l h
 upto-reach (Rows stored) from to l h = picks-upto (kept_by (Rows stored)) _ from to l h
 
+pub left-to : (s t : Blocks) → t.sel ≡ s.sel → s.place ≤ t.place → Inside t.sel t.place → rows_left s ≡ picks_from (kept_by s.sel) (t.place - s.place) s.place ++ rows_left t
+left-to s t same l h = rw same (upto-reach s.sel s.place t.place l (rw same at h))
+
 pub left-upto : (s t : Blocks) → t.sel ≡ s.sel → s.place ≤ t.place → GoesOn t → rows_left s ≡ picks_from (kept_by s.sel) (t.place - s.place) s.place ++ rows_left t
-left-upto s t same l h = rw same (upto-reach s.sel s.place t.place l (rw same at h.inside))
+left-upto s t same l h = left-to s t same l h.inside
 
 -- so do those of the next block
 next-below : {s t : Blocks} {block : Block} → Below (reach s.sel) (rows_left s) → GivesBlock s (Some block) t → Below (reach s.sel) (block_rows block)

@@ -105,11 +105,15 @@ OfWords len (Listed rows) = ⊥
 abbrev pub Worded : (ℕ → Bool) → ℕ → ℕ → Block × ℕ → Type 0
 Worded p len from r = OfWords len r.0 × Leaves p len from (block_rows r.0) r.1
 
--- what a call of `next` gives: the first block of what is left; or nothing, where no row is left. Blocks in step stay so
+-- the first block of what is left; or nothing, where no row is left
 pub record GivesBlock (s : Blocks) (r : Option Block) (t : Blocks) : Type 0 where
   pub same : t.sel ≡ s.sel
-  pub stays : InStep s → InStep t
   pub gives : MatchOption r (rows_left s ≡ []) (λ block. Within (reach s.sel) block × (rows_left s ≡ block_rows block ++ rows_left t))
+
+-- what a call of `next` gives; blocks in step stay so
+pub record GivesNext (s : Blocks) (r : Option Block) (t : Blocks) : Type 0 where
+  pub block : GivesBlock s r t
+  pub stays : InStep s → InStep t
 
 -- no row from `from` up to word w is picked, and x is what is left of that word: some row
 pub record Found (p : ℕ → Bool) (from w x : ℕ) : Type 0 where

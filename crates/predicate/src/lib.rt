@@ -7,7 +7,7 @@ ghost use Rattle.std.specs.Option.{ForSome};
 ghost use Rattle.slots.specs.Slot.{slot_in};
 ghost use Rattle.predicate.specs.Entries.{entries_on};
 ghost use Rattle.predicate.specs.Selection.{Selects, reach};
-ghost use Rattle.predicate.specs.Blocks.{picks_on, Begun, GoesOn, InStep, Worded, GivesBlock, Found, Filled, NextRun, starts_long, as_runs};
+ghost use Rattle.predicate.specs.Blocks.{picks_on, Begun, GoesOn, InStep, Worded, GivesNext, Found, Filled, NextRun, starts_long, as_runs};
 
 pub mod stored;
 #[cfg(test)]
@@ -197,7 +197,7 @@ impl<'a> Iterator for Blocks<'a> {
 
     ghost can_next = { GoesOn };
 
-    ghost next_gives = { GivesBlock };
+    ghost next_gives = { GivesNext };
 
     ghost remaining = { λ s. at_most (reach s.sel - s.place) };
 

@@ -12,13 +12,13 @@ use Rattle.bitmaps.proofs.filter_bits_blocks.Goals as goal
 use Rattle.bitmaps.proofs.filter_bits_blocks.Goals.{In-Run, In-Word, In-Listed}
 
 run : (c : In-Run) → GivesBlock c.loop-block.block-iterator (Some (Run c.in-Run.start c.in-Run.end)) c.next.new.self
-run c = rw c.in-Run.is at c.in-Some.ensures.steps
+run c = rw c.in-Run.is at c.in-Some.ensures.steps.block
 
 word : (c : In-Word) → GivesBlock c.loop-block.block-iterator (Some (Word c.in-Word.base c.in-Word.word)) c.next.new.self
-word c = rw c.in-Word.is at c.in-Some.ensures.steps
+word c = rw c.in-Word.is at c.in-Some.ensures.steps.block
 
 listed : (c : In-Listed) → GivesBlock c.loop-block.block-iterator (Some (Listed c.in-Listed.rows)) c.next.new.self
-listed c = rw c.in-Listed.is at c.in-Some.ensures.steps
+listed c = rw c.in-Listed.is at c.in-Some.ensures.steps.block
 
 pub loop-block-init : goal.loop-block-init
 loop-block-init c = record {
@@ -56,9 +56,9 @@ loop-block-preserved c =
 
 -- no row is left: all bits are packed
 pub flush-requires : goal.flush-requires
-flush-requires c = flush-room (walk-done c.loop-block.invariant.walked c.in-None.ensures.steps.gives) c.requires.len_in_bounds
+flush-requires c = flush-room (walk-done c.loop-block.invariant.walked c.in-None.ensures.steps.block.gives) c.requires.len_in_bounds
 
 pub returns : goal.returns
 returns c =
     let same = c.loop-block.invariant.same_reference ∙ c.new-to.ensures.same_reference in
-    left-in (search rules) (packs-done (walk-done c.loop-block.invariant.walked c.in-None.ensures.steps.gives) c.flush.ensures)
+    left-in (search rules) (packs-done (walk-done c.loop-block.invariant.walked c.in-None.ensures.steps.block.gives) c.flush.ensures)

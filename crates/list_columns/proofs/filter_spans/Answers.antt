@@ -22,39 +22,39 @@ loop-block-init g c = sum-none c.requires.spans c.new-block-items.ensures.begun 
 
 pub put_ends-to-requires : goal.put_ends-to-requires
 put_ends-to-requires g c =
-    let n = rw c.in-Run.is at c.in-Some.ensures.steps in
+    let n = rw c.in-Run.is at c.in-Some.ensures.steps.block in
     let fit = ends-fit _ _ (zero g (goal.at.put_ends-to-requires g c).After-put-start) c.requires.room in
     record { among = sum_among c.loop-block.invariant n; rows_bound = sum_fits c.loop-block.invariant n _ (spans-small _ _ _ _ c.args.sel c.requires.spans) fit }
 
 pub loop-block-preserved-in-Run : goal.loop-block-preserved-in-Run
 loop-block-preserved-in-Run g c =
-    let n = rw c.in-Run.is at c.in-Some.ensures.steps in
+    let n = rw c.in-Run.is at c.in-Some.ensures.steps.block in
     sum_more c.loop-block.invariant n c.put_ends-to.ensures.wrote c.put_ends-to.ensures.sum_value
 
 pub put_ends-to-requires-in-Word : goal.put_ends-to-requires-in-Word
 put_ends-to-requires-in-Word g c =
-    let n = rw c.in-Word.is at c.in-Some.ensures.steps in
+    let n = rw c.in-Word.is at c.in-Some.ensures.steps.block in
     let fit = ends-fit _ _ (zero g (goal.at.put_ends-to-requires-in-Word g c).After-put-start) c.requires.room in
     rw (c.new.ensures.base, c.new.ensures.rest) (record { among = sum_among c.loop-block.invariant n; rows_bound = sum_fits c.loop-block.invariant n _ (spans-small _ _ _ _ c.args.sel c.requires.spans) fit })
 
 pub loop-block-preserved-in-Word : goal.loop-block-preserved-in-Word
 loop-block-preserved-in-Word g c =
-    let n = rw c.in-Word.is at c.in-Some.ensures.steps in
+    let n = rw c.in-Word.is at c.in-Some.ensures.steps.block in
     let rows = rw (c.new.ensures.base, c.new.ensures.rest) at c.put_ends-to-in-Word.ensures in
     sum_more c.loop-block.invariant n rows.wrote rows.sum_value
 
 pub put_ends-to-requires-in-Listed : goal.put_ends-to-requires-in-Listed
 put_ends-to-requires-in-Listed g c =
-    let n = rw c.in-Listed.is at c.in-Some.ensures.steps in
+    let n = rw c.in-Listed.is at c.in-Some.ensures.steps.block in
     let fit = ends-fit _ _ (zero g (goal.at.put_ends-to-requires-in-Listed g c).After-put-start) c.requires.room in
     rw c.new-in-Listed.ensures (record { among = sum_among c.loop-block.invariant n; rows_bound = sum_fits c.loop-block.invariant n _ (spans-small _ _ _ _ c.args.sel c.requires.spans) fit })
 
 pub loop-block-preserved : goal.loop-block-preserved
 loop-block-preserved g c =
-    let n = rw c.in-Listed.is at c.in-Some.ensures.steps in
+    let n = rw c.in-Listed.is at c.in-Some.ensures.steps.block in
     let rows = rw c.new-in-Listed.ensures at c.put_ends-to-in-Listed.ensures in
     sum_more c.loop-block.invariant n rows.wrote rows.sum_value
 
 pub returns : goal.returns
 returns g c =
-    offsets-done _ _ (zero g (goal.at.returns g c).After-put-start) (sum_done c.loop-block.invariant c.in-None.ensures.steps.gives).0
+    offsets-done _ _ (zero g (goal.at.returns g c).After-put-start) (sum_done c.loop-block.invariant c.in-None.ensures.steps.block.gives).0

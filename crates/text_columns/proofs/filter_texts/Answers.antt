@@ -7,30 +7,30 @@ loop-block-init c = walk-none c.requires.texts c.new-block-items.ensures.begun c
 
 pub put_run-here-requires : goal.put_run-here-requires
 put_run-here-requires c =
-    let n = rw c.in-Run.is at c.in-Some.ensures.steps in
+    let n = rw c.in-Run.is at c.in-Some.ensures.steps.block in
     record { a_le_e = walk-run c.loop-block.invariant n c.requires.texts; a_in_bounds = (walk-needs c.loop-block.invariant n c.requires.room).1 }
 
 pub loop-block-preserved-in-Run : goal.loop-block-preserved-in-Run
 loop-block-preserved-in-Run c =
-    walk-more c.loop-block.invariant (rw c.in-Run.is at c.in-Some.ensures.steps) c.put_run-here.ensures
+    walk-more c.loop-block.invariant (rw c.in-Run.is at c.in-Some.ensures.steps.block) c.put_run-here.ensures
 
 pub put_word-here-requires : goal.put_word-here-requires
 put_word-here-requires c =
-    let both = walk-needs c.loop-block.invariant (rw c.in-Word.is at c.in-Some.ensures.steps) c.requires.room in
+    let both = walk-needs c.loop-block.invariant (rw c.in-Word.is at c.in-Some.ensures.steps.block) c.requires.room in
     record { among = both.0; word_in_bounds = both.1 }
 
 pub loop-block-preserved-in-Word : goal.loop-block-preserved-in-Word
 loop-block-preserved-in-Word c =
-    walk-more c.loop-block.invariant (rw c.in-Word.is at c.in-Some.ensures.steps) c.put_word-here.ensures
+    walk-more c.loop-block.invariant (rw c.in-Word.is at c.in-Some.ensures.steps.block) c.put_word-here.ensures
 
 pub put_list-here-requires : goal.put_list-here-requires
 put_list-here-requires c =
-    let both = walk-needs c.loop-block.invariant (rw c.in-Listed.is at c.in-Some.ensures.steps) c.requires.room in
+    let both = walk-needs c.loop-block.invariant (rw c.in-Listed.is at c.in-Some.ensures.steps.block) c.requires.room in
     record { among = both.0; rows_in_bounds = both.1 }
 
 pub loop-block-preserved : goal.loop-block-preserved
 loop-block-preserved c =
-    walk-more c.loop-block.invariant (rw c.in-Listed.is at c.in-Some.ensures.steps) c.put_list-here.ensures
+    walk-more c.loop-block.invariant (rw c.in-Listed.is at c.in-Some.ensures.steps.block) c.put_list-here.ensures
 
 pub returns : goal.returns
-returns c = walk-done c.loop-block.invariant c.in-None.ensures.steps.gives
+returns c = walk-done c.loop-block.invariant c.in-None.ensures.steps.block.gives

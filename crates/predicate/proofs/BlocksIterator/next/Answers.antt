@@ -30,30 +30,28 @@ fits : (c : Else-stored-self) → c.args.self.now.index + 1 < length c.in-Runs.s
 fits c = run_fits _ _ _ (lists (goal.at.Else-stored-self c).In-Runs) (omega arith)
 
 pub returns-in-Nothing-clause-steps : goal.returns-in-Nothing-clause-steps
-returns-in-Nothing-clause-steps c = record { same = refl; stays = λ h. h; gives = rw c.in-Nothing.is (picks-over _ _ _ (omega arith)) }
+returns-in-Nothing-clause-steps c = record { block = record { same = refl; gives = rw c.in-Nothing.is (picks-over _ _ _ (omega arith)) }; stays = λ h. h }
 
 pub returns-then-n-self-clause-steps : goal.returns-then-n-self-clause-steps
-returns-then-n-self-clause-steps c = record { same = refl; stays = λ h. h; gives = rw c.in-Everything.is (picks-over _ _ _ (omega arith)) }
+returns-then-n-self-clause-steps c = record { block = record { same = refl; gives = rw c.in-Everything.is (picks-over _ _ _ (omega arith)) }; stays = λ h. h }
 
 pub returns-else-n-self-clause-steps : goal.returns-else-n-self-clause-steps
 returns-else-n-self-clause-steps c =
     record {
-      same = refl;
+      block = record { same = refl; gives = ((omega arith, rw c.in-Everything.is (omega arith)), rw c.in-Everything.is (all-gives _ _ (omega arith))) };
       stays = λ h. record { inside = rw c.in-Everything.is (omega arith); agrees = rw c.in-Everything.is tt };
-      gives = ((omega arith, rw c.in-Everything.is (omega arith)), rw c.in-Everything.is (all-gives _ _ (omega arith)));
     }
 
 pub returns-then-stored-self-clause-steps : goal.returns-then-stored-self-clause-steps
-returns-then-stored-self-clause-steps c = record { same = refl; stays = λ h. h; gives = rw c.in-Runs.is (run-over _ _ _ (lists (goal.at.returns-then-stored-self-clause-steps c).In-Runs) (omega arith)) }
+returns-then-stored-self-clause-steps c = record { block = record { same = refl; gives = rw c.in-Runs.is (run-over _ _ _ (lists (goal.at.returns-then-stored-self-clause-steps c).In-Runs) (omega arith)) }; stays = λ h. h }
 
 pub returns-else-stored-self-clause-steps : goal.returns-else-stored-self-clause-steps
 returns-else-stored-self-clause-steps c =
     let g = lists (goal.at.returns-else-stored-self-clause-steps c).In-Runs in
     rw c.run_at-a.ensures.run
     record {
-      same = refl;
+      block = record { same = refl; gives = (rw c.in-Runs.is (run-within _ _ _ g (omega arith)), rw c.in-Runs.is (run-gives _ _ _ g (omega arith)).rest) };
       stays = λ h. record { inside = rw c.in-Runs.is (run-within _ _ _ g (omega arith)).1; agrees = rw c.in-Runs.is (run-lists _ _ _ g (omega arith)) };
-      gives = (rw c.in-Runs.is (run-within _ _ _ g (omega arith)), rw c.in-Runs.is (run-gives _ _ _ g (omega arith)).rest);
     }
 
 pub returns-else-stored-self-clause-goes : goal.returns-else-stored-self-clause-goes
@@ -68,7 +66,7 @@ returns-else-stored-self-clause-goes c =
     rw c.run_at-a.ensures.run record { on = λ _. (step, tt, omega arith); keeps = step; rests = λ _. tt }
 
 pub returns-then-stored-self-2-clause-steps : goal.returns-then-stored-self-2-clause-steps
-returns-then-stored-self-2-clause-steps c = record { same = refl; stays = λ h. h; gives = rw c.in-Rows.is (list-over _ _ _ (listed (goal.at.returns-then-stored-self-2-clause-steps c).In-Rows) (omega arith)) }
+returns-then-stored-self-2-clause-steps c = record { block = record { same = refl; gives = rw c.in-Rows.is (list-over _ _ _ (listed (goal.at.returns-then-stored-self-2-clause-steps c).In-Rows) (omega arith)) }; stays = λ h. h }
 
 pub run_at-a-requires : goal.run_at-a-requires
 run_at-a-requires c = fits (goal.at.run_at-a-requires c).Else-stored-self
@@ -84,9 +82,8 @@ returns-else-stored-self-2-clause-steps c =
     let r = (goal.at.returns-else-stored-self-2-clause-steps c).In-Rows in
     let g = list-leaves _ _ _ (listed r) (inside r) (omega arith) in
     record {
-      same = refl;
-      stays = λ h. record { inside = rw c.in-Rows.is (omega arith); agrees = rw c.in-Rows.is (λ l. absurd (omega arith)) };
-      gives = (tt, rw (c.in-Rows.is, c.rows_from-rows.ensures) g.rest);
+      block = record { same = refl; gives = (tt, rw (c.in-Rows.is, c.rows_from-rows.ensures) g.rest) };
+      stays = λ h. record { inside = rw c.in-Rows.is (omega arith); agrees = rw c.in-Rows.is (λ l. omega arith) };
     }
 
 pub returns-else-stored-self-2-clause-goes : goal.returns-else-stored-self-2-clause-goes
